@@ -1,0 +1,4 @@
+// Planning tasks over lent records: their rules, their names, states, and what operators do.
+pub mod cause;
+pub mod fault;
+pub mod records;
