@@ -1,1 +1,4 @@
 pub mod Causes
+pub mod Records
+pub mod Rules
+pub mod Model

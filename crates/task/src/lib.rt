@@ -2,3 +2,4 @@
 pub mod cause;
 pub mod fault;
 pub mod records;
+pub mod task;
