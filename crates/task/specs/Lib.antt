@@ -2,3 +2,4 @@ pub mod Causes
 pub mod Records
 pub mod Rules
 pub mod Model
+pub mod Answers
