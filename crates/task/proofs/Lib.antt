@@ -1,2 +1,4 @@
 pub mod Lists
 pub mod Actions
+pub mod Cuts
+pub mod NthLines
