@@ -2,3 +2,4 @@ pub mod Lists
 pub mod Actions
 pub mod Cuts
 pub mod NthLines
+pub mod Walks

@@ -6,3 +6,4 @@ pub mod Answers
 pub mod Lines
 pub mod Names
 pub mod Making
+pub mod Walking

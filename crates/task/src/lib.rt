@@ -9,3 +9,4 @@ pub mod records;
 pub mod rules;
 pub mod state;
 pub mod task;
+pub mod walk;
