@@ -1,6 +1,5 @@
-use std::test::*;
-
 use super::sofa;
+use std::test::*;
 
 #[test]
 fn operators_apply() -> Result<(), Fail> {
