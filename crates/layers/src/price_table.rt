@@ -1,6 +1,6 @@
 ghost use mathlib.Core.Path.{_≡_};
 ghost use Prim.Native.Nat.{ℕ, _≤_};
-ghost use lib.ListN.{length, take};
+ghost use lib.ListN.{length, replicate, take};
 ghost use Rattle.layers.specs.Joined.{mins};
 
 // A price for each of the most operators that a task can have.
@@ -11,7 +11,9 @@ pub struct PriceTable {
 
 impl PriceTable {
     // One of zeros.
-    pub fn new() -> PriceTable {
+    pub fn new() -> PriceTable
+        ensures { λ r. ⌜ r .prices ≡ replicate 256 0 ⌝ }
+    {
         PriceTable { prices: [0; 256] }
     }
 
