@@ -81,7 +81,7 @@ pub record NoneTaken {X : Type 0} (itemOf : X → ℕ) (p q : Queue X) : Type 0 
 pub record FirstTaken {X : Type 0} (itemOf : X → ℕ) (noLater : X → X → Bool) (p q : Queue X) (x : X) : Type 0 where
   pub first : First itemOf noLater p x
   pub changed : Changed itemOf p q (itemOf x) None
-  pub shorter : q .len + 1 ≡ p .len
+  pub len : q .len + 1 ≡ p .len
 
 -- The answers to taking: nothing, as p holds nothing, or a first entry of p, which is then gone.
 abbrev pub Taken : {X : Type 0} → (X → ℕ) → (X → X → Bool) → Queue X → Queue X → Option X → Type 0

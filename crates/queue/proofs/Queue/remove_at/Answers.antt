@@ -1,5 +1,5 @@
 -- Without its last entry, or with that in the place of another, the queue holds all but one item's entry.
-use mathlib.Core.Path.{_≡_, refl, sym, ap, subst, _∙_}
+use mathlib.Core.Path.{_≡_, refl, ap, subst, _∙_}
 use mathlib.Core.List.{List}
 use Prim.Native.Nat.{ℕ, _+_, _-_, _<_}
 use native.Mathlib.Omega.{arith}
@@ -29,6 +29,7 @@ returns-then-place-last g c =
     let ps = c .args .self .now .places .now in
     let m = c .args .self .now .len in
     let pos : 0 < m = omega (arith, c .pre .within) in
+    let is-last : m - 1 ≡ c .args .place = omega (arith, c .pre .within, c .if-place-last .taken) in
     let ix = one-more (c .pre .sound .indexed) pos in
     record {
       sound = record { indexed = indexed-less itemOf xs ps (m - 1) ix; ordered = λ j d j-pos l. c .pre .sound .ordered j d j-pos (omega arith) };
@@ -37,7 +38,7 @@ returns-then-place-last g c =
       changed = λ d k.
           held-less itemOf xs ps (m - 1) ix d k
           ∙ back-to itemOf xs m (itemOf (getD xs (m - 1) d)) k pos
-          ∙ ap (λ z. update eqb (held itemOf (take m xs)) (itemOf (getD xs z d)) None k) (sym (c .if-place-last .taken));
+          ∙ ap (λ z. update eqb (held itemOf (take m xs)) (itemOf (getD xs z d)) None k) is-last;
     }
 
 pub refill-requires : need.refill-requires

@@ -34,6 +34,7 @@ loop-hole-again g c =
     let i = c .loop-hole .hole in
     let e = c .args .sifted in
     let carried = c .loop-hole .inv .0 in
+    let pos : 0 < i = omega (arith, c .loop-hole-test .taken) in
     let p-in : parent i < c .loop-hole .self .len = omega (arith, carried .within) in
     let apart : parent i ≡ i → ⊥ = λ z. omega arith in
     let lp : parent i < length xs = omega (arith, carried .indexed .fits, length-set xs i e) in
@@ -43,7 +44,7 @@ loop-hole-again g c =
     (getD-set-same xs i e d (hole-in _ _ _ _ _ _ _ _ _ _ carried)) (sym (c .if-no-later-than .ensures tt)) in
     rw (c .item-moved .ensures) (
       carrying-more _ _ _ _ _ _ _ _ _ _ carried (parent i) _ p-in apart is-f,
-      up-step noLater (order g) (set xs i e) _ _ i (carried .within) (parent i) refl (c .loop-hole-test .taken) (c .loop-hole .inv .1)
+      up-step noLater (order g) (set xs i e) _ _ i (carried .within) (parent i) refl pos (c .loop-hole .inv .1)
           (exchanged _ _ _ _ _ _ _ _ _ _ carried (parent i) _ p-in apart is-f) late,
     )
 

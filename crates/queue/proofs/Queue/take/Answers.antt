@@ -27,6 +27,6 @@ returns g c =
       taken = record {
         first = first-held (g .T·QueueEntry .itemOf) (g .T·QueueEntry .noLater) (order g) (c .args .self .now) (c .index-self-0 .result) pos (c .pre);
         changed = c .remove-at .ensures .changed (c .index-self-0 .result);
-        shorter = c .remove-at .ensures .len;
+        len = c .remove-at .ensures .len;
       };
     }
