@@ -1,0 +1,47 @@
+-- Each turn exchanges the sifted entry with its parent, so that it alone stays out of order.
+use mathlib.Core.Path.{_≡_, refl, sym, ap, _∙_}
+use mathlib.Core.Bool.{false}
+use Prim.Native.Nat.{_<_}
+use native.Mathlib.Omega.{arith}
+use lib.ListN.{length, getD, set}
+use Rattle.std.proofs.shelf.Lists.{length-set, getD-set-same, getD-set-other, getD-default}
+use Rattle.queue.specs.Heap.{parent}
+use Rattle.queue.proofs.Order.{TotalOrder, up-step, compared}
+use Rattle.queue.proofs.Carrying.{hole-in, item-in, moved-in, exchanged, carrying-more}
+use Rattle.queue.proofs.Queue.sift_up.Given as given
+use Rattle.queue.proofs.Queue.sift_up.Needs as need
+
+order : (g : given.Over) → TotalOrder (g .T·QueueEntry .noLater)
+order g = record { total = g .T·QueueEntry·met .total; transitive = g .T·QueueEntry·met .transitive }
+
+pub index-self-moved : need.index-self-moved
+index-self-moved g c =
+    let xs = c .loop-hole .self .entries .now in
+    let i = c .loop-hole .hole in
+    let lp : parent i < length xs = omega (arith, c .loop-hole .inv .0 .within, c .loop-hole .inv .0 .indexed .fits, length-set xs i (c .args .sifted)) in
+    let low = moved-in _ _ _ _ _ _ _ _ _ _ (c .loop-hole .inv .0) (parent i) _ (omega (arith, c .loop-hole .inv .0 .within)) (omega arith)
+    (λ d. getD-default xs (parent i) d (c .index-self-parent .result) lp) in
+    omega (arith, low, c .item-moved .ensures)
+
+pub index-self-item : need.index-self-item
+index-self-item g c = omega (arith, item-in _ _ _ _ _ _ _ _ _ _ (c .loop-hole .inv .0), c .item-item .ensures)
+
+pub loop-hole-again : need.loop-hole-again
+loop-hole-again g c =
+    let noLater = g .T·QueueEntry .noLater in
+    let xs = c .loop-hole .self .entries .now in
+    let i = c .loop-hole .hole in
+    let e = c .args .sifted in
+    let carried = c .loop-hole .inv .0 in
+    let p-in : parent i < c .loop-hole .self .len = omega (arith, carried .within) in
+    let apart : parent i ≡ i → ⊥ = λ z. omega arith in
+    let lp : parent i < length xs = omega (arith, carried .indexed .fits, length-set xs i e) in
+    let is-f : (d : g .T .Denot) → getD xs (parent i) d ≡ getD xs (parent i) (c .index-self-parent .result) = λ d. getD-default xs (parent i) d (c .index-self-parent .result) lp in
+    let late : (d : g .T .Denot) → noLater (getD (set xs i e) (parent i) d) (getD (set xs i e) i d) ≡ false =
+    λ d. compared noLater _ _ _ _ (getD-set-other xs i (parent i) e d apart ∙ is-f d)
+    (getD-set-same xs i e d (hole-in _ _ _ _ _ _ _ _ _ _ carried)) (sym (c .if-no-later-than .ensures tt)) in
+    rw (c .item-moved .ensures) (
+      carrying-more _ _ _ _ _ _ _ _ _ _ carried (parent i) _ p-in apart is-f,
+      up-step noLater (order g) (set xs i e) _ _ i (carried .within) (parent i) refl (c .loop-hole-test .taken) (c .loop-hole .inv .1)
+          (exchanged _ _ _ _ _ _ _ _ _ _ carried (parent i) _ p-in apart is-f) late,
+    )
