@@ -45,7 +45,14 @@ pub record Inv (t : Model) (ns : List Node) (x i : ℕ) : Type 0 where
 -- one more operator has been tried
 pub further : (t : Model) (ns : List Node) (x i : ℕ) → Inv t ns x i → (Applies t (node ns x .state) i → Down t ns x i) → Inv t ns x (suc i)
 further t ns x i inv d = record {
-  some = inv .some; root = inv .root; free = inv .free; states = inv .states; sole = inv .sole; came = inv .came; ways = inv .ways; low = inv .low;
+  some = inv .some;
+  root = inv .root;
+  free = inv .free;
+  states = inv .states;
+  sole = inv .sole;
+  came = inv .came;
+  ways = inv .ways;
+  low = inv .low;
   closed = λ k l. side k (inv .closed k l);
 }
   where
@@ -53,6 +60,7 @@ further t ns x i inv d = record {
     at-x k o j f a (inl q) (inl r) = rw (q, r) (d (rw (q, r) at a))
     at-x k o j f a (inl q) (inr r) = o .down j (λ z. omega (arith, f z)) a
     at-x k o j f a (inr q) y = o .down j (λ z. absurd (q z)) a
+
     side : (k : ℕ) → Fair t (node ns k .state) (node ns k .wait) ⊎ Done t ns x i k → Fair t (node ns k .state) (node ns k .wait) ⊎ Done t ns x (suc i) k
     side k (inl f) = inl f
     side k (inr o) = inr record { idle = o .idle; short = o .short; down = λ j f a. at-x k o j f a (same-or-not k x) (same-or-not j i) }
@@ -75,7 +83,6 @@ came-by t ms j p b ep eb l a e g = record { from = rw ep l; applies = rw (ep, eb
 
 module _ (t : Model) (sound : WellFormed t) (ns ms : List Node) (x i k : ℕ) (a : Option ℕ) (inv : Inv t ns x i) (c : Comes t ns x i k a)
     (placed : Placed ns k (made (applied t (node ns x .state) i) (node ns x .g + getD (prices t) i 0) x i a) ms) where
-
   here-state : node ms k .state ≡ applied t (node ns x .state) i
   here-state = rw (placed .here)
 
@@ -142,8 +149,8 @@ module _ (t : Model) (sound : WellFormed t) (ns ms : List Node) (x i k : ℕ) (a
       let b = inv .came j l z in
       let s = state-stays (node ns j .parent) (b .from) in
       came-by t ms j (node ns j .parent) (node ns j .operator) (ap (λ n. n .parent) o) (ap (λ n. n .operator) o)
-        (placed .more (node ns j .parent) (b .from)) (rw s (b .applies)) (rw (s, o) (b .leads))
-        (rw o (omega (arith, g-falls (node ns j .parent) (b .from), b .costs))))
+      (placed .more (node ns j .parent) (b .from)) (rw s (b .applies)) (rw (s, o) (b .leads))
+      (rw o (omega (arith, g-falls (node ns j .parent) (b .from), b .costs))))
 
   ways′ : (j : ℕ) → j < length ms → (is : List ℕ) × Way ms j is
   ways′ = by-case (λ j. (is : List ℕ) × Way ms j is)
@@ -178,7 +185,12 @@ module _ (t : Model) (sound : WellFormed t) (ns ms : List Node) (x i k : ℕ) (a
     some = placed .more 0 (inv .some);
     root = state-stays 0 (inv .some) ∙ inv .root;
     free = omega (arith, g-falls 0 (inv .some), inv .free);
-    states = states′; sole = sole′; came = came′; ways = ways′; low = low′; closed = closed′;
+    states = states′;
+    sole = sole′;
+    came = came′;
+    ways = ways′;
+    low = low′;
+    closed = closed′;
   }
 
   pub placed-further : Inv t ms x (suc i)

@@ -35,7 +35,14 @@ module _ (t : Model) where
 
   pub stilled : (ns : List Node) (x : ℕ) → Inv t ns x (length (t .operators)) → Still t ns
   stilled ns x inv = record {
-    some = inv .some; root = inv .root; free = inv .free; states = inv .states; sole = inv .sole; came = inv .came; ways = inv .ways; low = inv .low;
+    some = inv .some;
+    root = inv .root;
+    free = inv .free;
+    states = inv .states;
+    sole = inv .sole;
+    came = inv .came;
+    ways = inv .ways;
+    low = inv .low;
     closed = λ k l. side k (inv .closed k l);
   }
     where
@@ -89,7 +96,7 @@ module _ (t : Model) where
       came = λ k l nz.
           let c = inv .came k (down k l) nz in
           came-by t ms k (node ns k .parent) (node ns k .operator) (pa k) (op k) (P .more (node ns k .parent) (c .from)) (rw (st (node ns k .parent)) (c .applies))
-            (rw (st (node ns k .parent), st k) (c .leads)) (rw (gs (node ns k .parent), gs k) (c .costs));
+          (rw (st (node ns k .parent), st k) (c .leads)) (rw (gs (node ns k .parent), gs k) (c .costs));
       ways = λ k l. let v = inv .ways k (down k l) in (v .0, way-same ns ms (P .more) pa op k (v .0) (v .1));
       low = λ k l. rw (gs k) (inv .low k (down k l));
       closed = λ k l. side k l (same-or-not k x);
@@ -97,32 +104,44 @@ module _ (t : Model) where
       where
         ms : List Node
         ms = set ns x (taken (node ns x))
+
         P : Placed ns x (taken (node ns x)) ms
         P = set-placed ns x (taken (node ns x)) (w .0)
+
         kept : {A : Type 0} (f : Node → A) → f (taken (node ns x)) ≡ f (node ns x) → (j : ℕ) → f (node ms j) ≡ f (node ns j)
         kept {A} f e j = go (same-or-not j x)
           where
             go : (j ≡ x) ⊎ (j ≢ x) → f (node ms j) ≡ f (node ns j)
             go (inl q) = rw q (ap f (P .here) ∙ e)
             go (inr d) = ap f (P .others j d)
+
         st : (j : ℕ) → node ms j .state ≡ node ns j .state
         st = kept (λ n. n .state) refl
+
         gs : (j : ℕ) → node ms j .g ≡ node ns j .g
         gs = kept (λ n. n .g) refl
+
         pa : (j : ℕ) → node ms j .parent ≡ node ns j .parent
         pa = kept (λ n. n .parent) refl
+
         op : (j : ℕ) → node ms j .operator ≡ node ns j .operator
         op = kept (λ n. n .operator) refl
+
         down : (k : ℕ) → k < length ms → k < length ns
         down k l = simp length-set at l
+
         moved : (k j : ℕ) → Down t ns k j → Down t ms k j
         moved k j d = record { to = d .to; held = P .more (d .to) (d .held); leads = rw (st (d .to), st k) (d .leads); costs = rw (gs (d .to), gs k) (d .costs) }
+
         other : (k : ℕ) → node ms k ≡ node ns k → Fair t (node ns k .state) (node ns k .wait) ⊎ Done t ns 0 (length (t .operators)) k →
             Fair t (node ms k .state) (node ms k .wait) ⊎ Done t ms x 0 k
         other k o (inl f) = inl (rw o f)
         other k o (inr d) = inr record {
-          idle = rw o (d .idle); short = rw o (d .short);
-          down = λ j f a. let b : Applies t (node ns k .state) j = rw o at a in moved k j (d .down j (λ _. applies-below (node ns k .state) j b) b) }
+          idle = rw o (d .idle);
+          short = rw o (d .short);
+          down = λ j f a. let b : Applies t (node ns k .state) j = rw o at a in moved k j (d .down j (λ _. applies-below (node ns k .state) j b) b);
+        }
+
         side : (k : ℕ) → k < length ms → (k ≡ x) ⊎ (k ≢ x) → Fair t (node ms k .state) (node ms k .wait) ⊎ Done t ms x 0 k
         side k l (inl q) = inr record { idle = rw (q, P .here); short = rw (st k, q) ng; down = λ j f a. absurd (not-suc-le-zero (f q)) }
         side k l (inr d) = other k (P .others k d) (inv .closed k (down k l))
@@ -170,15 +189,20 @@ module _ {E : Type 0} (est : Estimates E) (lawful : Lawful est) (t : Model) (sou
     where
       s : List ℕ
       s = applied t (node ns x .state) i
+
       v : Node
       v = made s (node ns x .g + getD (prices t) i 0) x i o
+
       P : Placed ns k v (set ns k v)
       P = set-placed ns k v (hk .0)
+
       c : Comes t ns x i k o
       c = record {
-        from = n .inside; applies = a;
+        from = n .inside;
+        applies = a;
         sole = λ j l z. n .inv .sole j k l (hk .0) (z ∙ sym (hk .1));
-        same = λ _. hk .1; falls = λ _. lt;
+        same = λ _. hk .1;
+        falls = λ _. lt;
         apart = λ z. let f : node ns x .g < node ns x .g = rw z at (lower k lt) in omega arith;
         nonzero = λ z. let f : node ns 0 .g ≡ 0 = n .inv .free in omega (arith, rw z at lt);
         low = omega (arith, n .inv .low k (hk .0), lt);
@@ -196,17 +220,23 @@ module _ {E : Type 0} (est : Estimates E) (lawful : Lawful est) (t : Model) (sou
     where
       s : List ℕ
       s = applied t (node ns x .state) i
+
       v : Node
       v = made s (node ns x .g + getD (prices t) i 0) x i o
+
       P : Placed ns (length ns) v (ns ++ v ∷ [])
       P = add-placed ns v
+
       lowly : node ns x .g + getD (prices t) i 0 ≤ length ns * dearest (prices t)
       lowly = omega (arith, n .inv .low x (n .inside), dearest-le (prices t) i, mul-le-mul-right (dearest (prices t)) (n .inside))
+
       c : Comes t ns x i (length ns) o
       c = record {
-        from = n .inside; applies = a;
+        from = n .inside;
+        applies = a;
         sole = λ j l z. absurd (nh j l z);
-        same = λ f. absurd (irr f); falls = λ f. absurd (irr f);
+        same = λ f. absurd (irr f);
+        falls = λ f. absurd (irr f);
         apart = λ z. let f : x < length ns = n .inside in omega arith;
         nonzero = λ z. let f : 0 < length ns = n .inv .some in omega arith;
         low = lowly;

@@ -35,7 +35,7 @@ module _ (t : Model) (ns : List Node) (root : node ns 0 .state ≡ t .initial) (
   way-leads k is (step js nz l w e) =
       let c = came k l nz in
       rw e (subst (λ u. Leads t (t .initial) (js ++ node ns k .operator ∷ []) u) (c .leads)
-        (leads-snoc t (t .initial) (node ns (node ns k .parent) .state) js (node ns k .operator) (way-leads (node ns k .parent) js w) (c .applies)))
+      (leads-snoc t (t .initial) (node ns (node ns k .parent) .state) js (node ns k .operator) (way-leads (node ns k .parent) js w) (c .applies)))
 
   pub way-costs : (k : ℕ) (is : List ℕ) → Way ns k is → Cost (prices t) is ≤ node ns k .g
   way-costs k is (home z e) = rw e (omega arith)
@@ -52,7 +52,6 @@ way-same ns ms ml mp mb k is (step js nz l w e) = step js nz (ml k l) (rw (mp k)
 -- a node is placed at k: it has a new way, and a node that costs no more keeps its way
 module _ (t : Model) (ns ms : List Node) (k : ℕ) (v : Node) (placed : Placed ns k v ms)
     (came : (j : ℕ) → j < length ns → j ≢ 0 → Came t ns j) (falls : k < length ns → v .g < node ns k .g) where
-
   pub way-stays : (j : ℕ) (is : List ℕ) → Way ns j is → node ns j .g ≤ v .g → Way ms j is
   way-stays j is (home z e) le = home z e
   way-stays j is (step js nz l w e) le =

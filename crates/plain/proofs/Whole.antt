@@ -118,14 +118,20 @@ module _ {E : Type 0} (est : Estimates E) (lawful : Lawful est) (t : Model) (sou
   stays : (s : Step) (q : Said) (row : List ℕ) (go : Bool) (run : Run) (p : Plain) (e : E) → Stand run p e → s .answer ≡ reports q row go p → NotMore q → Fine (p .status) (p .nodes) q →
       ((f : Find) (b w : List ℕ) → s .call ≡ write f b → q ≡ wrote w → Begun t N text b row w) → Stand (s ∷ run) p e
   stays s q row go run p e h a nm f u = record {
-    steady = (record {
-      rises = rw a (omega (arith, h .bound));
-      below = λ is l. rw a (h .below is l);
-      counts = λ n ec em. absurd (not-more q nm (sym (ap (λ z. z .said) a) ∙ em));
-      total = rw a (h .within);
-      buffer = λ g b w ec ew. rw a (u g b w ec (sym (ap (λ z. z .said) a) ∙ ew));
-    }, h .steady);
-    bound = rw a; total = rw a; below = h .below; within = h .within;
+    steady = (
+      record {
+        rises = rw a (omega (arith, h .bound));
+        below = λ is l. rw a (h .below is l);
+        counts = λ n ec em. absurd (not-more q nm (sym (ap (λ z. z .said) a) ∙ em));
+        total = rw a (h .within);
+        buffer = λ g b w ec ew. rw a (u g b w ec (sym (ap (λ z. z .said) a) ∙ ew));
+      },
+      h .steady,
+    );
+    bound = rw a;
+    total = rw a;
+    below = h .below;
+    within = h .within;
     said = said-more s run (p .status) (p .nodes) (rw a f) (h .said);
     sits = sits-stays s run p e (p .status) (h .sits);
   }
@@ -154,16 +160,22 @@ module _ {E : Type 0} (est : Estimates E) (lawful : Lawful est) (t : Model) (sou
   moves : (s : Step) (q : Said) (row : List ℕ) (go : Bool) (run : Run) (p p′ : Plain) (e e′ : E) → Stand run p e → Going (p .status) → Dry q → s .answer ≡ reports q row go p′ → Fine (p′ .status) (p′ .nodes) q →
       Ended est lawful t sound N p p′ → ((n : ℕ) → s .call ≡ advance n → q ≡ more → p′ .total ≡ p .total + n) → Sits (p′ .status) (s ∷ run) p′ e′ → Stand (s ∷ run) p′ e′
   moves s q row go run p p′ e e′ h g dry a f d counts sits = record {
-    steady = (record {
-      rises = rw a (omega (arith, h .bound, d .rises));
-      below = λ is l. rw a (d .below is l);
-      counts = λ n ec em. rw a (counts n ec (sym (ap (λ z. z .said) a) ∙ em) ∙ ap (λ z. z + n) (sym (h .total)));
-      total = rw a (d .total);
-      buffer = λ g b w ec ew. absurd (not-wrote q w dry (sym (ap (λ z. z .said) a) ∙ ew));
-    }, h .steady);
-    bound = rw a; total = rw a; below = d .below; within = d .total;
+    steady = (
+      record {
+        rises = rw a (omega (arith, h .bound, d .rises));
+        below = λ is l. rw a (d .below is l);
+        counts = λ n ec em. rw a (counts n ec (sym (ap (λ z. z .said) a) ∙ em) ∙ ap (λ z. z + n) (sym (h .total)));
+        total = rw a (d .total);
+        buffer = λ g b w ec ew. absurd (not-wrote q w dry (sym (ap (λ z. z .said) a) ∙ ew));
+      },
+      h .steady,
+    );
+    bound = rw a;
+    total = rw a;
+    below = d .below;
+    within = d .total;
     said = said-more s run (p′ .status) (p′ .nodes) (rw a f)
-      (λ z m. plain-fine (p′ .status) (p′ .nodes) z (going-plain (p .status) (p .nodes) z g (h .said z m)));
+        (λ z m. plain-fine (p′ .status) (p′ .nodes) z (going-plain (p .status) (p .nodes) z g (h .said z m)));
     sits = sits;
   }
 
@@ -175,7 +187,12 @@ module _ {E : Type 0} (est : Estimates E) (lawful : Lawful est) (t : Model) (sou
 
   refreshed : (run : Run) (p : Plain) (e e′ : E) → Stand run p e → p .status ≡ fresh → Stand run p e′
   refreshed run p e e′ h st = record {
-    steady = h .steady; bound = h .bound; total = h .total; below = h .below; within = h .within; said = h .said;
+    steady = h .steady;
+    bound = h .bound;
+    total = h .total;
+    below = h .below;
+    within = h .within;
+    said = h .said;
     sits = subst (λ z. Sits z run p e′) (sym st) (fresh-at run p e h st);
   }
 
@@ -190,7 +207,9 @@ module _ {E : Type 0} (est : Estimates E) (lawful : Lawful est) (t : Model) (sou
 
   first-inv : (w : Option ℕ) → Fair t (t .initial) w → Inv t (made (t .initial) 0 0 0 w ∷ []) 0 (length (t .operators))
   first-inv w f = record {
-    some = omega arith; root = refl; free = refl;
+    some = omega arith;
+    root = refl;
+    free = refl;
     states = λ k l. rw (zero-of k l) (sound .starts);
     sole = λ j k lj lk _. zero-of j lj ∙ sym (zero-of k lk);
     came = λ k l nz. absurd (nz (zero-of k l));
@@ -211,12 +230,16 @@ module _ {E : Type 0} (est : Estimates E) (lawful : Lawful est) (t : Model) (sou
     where
       v : Node
       v = made (t .initial) 0 0 0 w
+
       p₁ : Plain
       p₁ = record { status = running; nodes = v ∷ []; bound = 0; total = 0 }
+
       got : (held : List ℕ) × est .holds d t held × Shares (prices t) held left
       got = lawful .accepts q
+
       ready : Ready est t d
       ready = record { held = got .0; holds = got .1; under = λ i. omega (arith, got .2 .each i) }
+
       live : Live est lawful t sound N p₁ e′
       live = record {
         runs = refl;
@@ -228,34 +251,34 @@ module _ {E : Type 0} (est : Estimates E) (lawful : Lawful est) (t : Model) (sou
 
   advances-stand : (s : Step) (n : ℕ) (run : Run) (p p′ : Plain) (e e′ : E) → Stand run p e → s .call ≡ advance n → Advances est t N n p e (s .answer) p′ e′ → Stand (s ∷ run) p′ e′
   advances-stand s n run p p′ e e′ h c (Advances.late ns a ep ee) = rw (ep, ee) (stays s _ _ _ run p e h a tt tt (dry-buffer (refused _) _ s tt))
-  advances-stand s n run p p′ e e′ h c (Advances.goes r tu a) = 
+  advances-stand s n run p p′ e e′ h c (Advances.goes r tu a) =
       let v = turns-live est lawful t sound N n p p′ e e′ (live-at run p e h r) tu in
       moves s more [] true run p p′ e e′ h (subst (λ z. Going z) (sym r) tt) tt a tt
-        (record { rises = v .1; below = v .0 .below; total = live-total est lawful t sound N p′ e′ (v .0) })
-        (λ k ec em. let z : n ≡ k = same-count n k (sym c ∙ ec) in omega (arith, v .2))
-        (subst (λ st. Sits st (s ∷ run) p′ e′) (sym (v .0 .runs)) (v .0))
-  advances-stand s n run p p′ e e′ h c (Advances.finds m x q r l tu f a) = 
+      (record { rises = v .1; below = v .0 .below; total = live-total est lawful t sound N p′ e′ (v .0) })
+      (λ k ec em. let z : n ≡ k = same-count n k (sym c ∙ ec) in omega (arith, v .2))
+      (subst (λ st. Sits st (s ∷ run) p′ e′) (sym (v .0 .runs)) (v .0))
+  advances-stand s n run p p′ e e′ h c (Advances.finds m x q r l tu f a) =
       let v = turns-live est lawful t sound N m p q e e′ (live-at run p e h r) tu in
       let b = finds-won est lawful t sound N q p′ e′ x (v .0) f in
       let st : p′ .status ≡ found x = ap (λ z. z .status) (f .after) in
       moves s (gave (record { node = x; cost = node (q .nodes) x .g })) [] false run p p′ e e′ h (subst (λ z. Going z) (sym r) tt) tt a (st, sym (b .1))
-        (ended-after p q p′ (v .1) (finds-ended est lawful t sound N q p′ e′ x (v .0) f))
-        (λ k ec em. absurd (not-more (gave (record { node = x; cost = node (q .nodes) x .g })) tt em))
-        (subst (λ z. Sits z (s ∷ run) p′ e′) (sym st) (b .0, inl (ap (λ z. z .said) a ∙ ap (λ (g : ℕ). gave (record { node = x; cost = g })) (sym (b .1)))))
-  advances-stand s n run p p′ e e′ h c (Advances.empties m q r l tu em ep a) = 
+      (ended-after p q p′ (v .1) (finds-ended est lawful t sound N q p′ e′ x (v .0) f))
+      (λ k ec em. absurd (not-more (gave (record { node = x; cost = node (q .nodes) x .g })) tt em))
+      (subst (λ z. Sits z (s ∷ run) p′ e′) (sym st) (b .0, inl (ap (λ z. z .said) a ∙ ap (λ (g : ℕ). gave (record { node = x; cost = g })) (sym (b .1)))))
+  advances-stand s n run p p′ e e′ h c (Advances.empties m q r l tu em ep a) =
       let v = turns-live est lawful t sound N m p q e e′ (live-at run p e h r) tu in
       rw ep (moves s no-plan [] false run p (record { status = none; nodes = q .nodes; bound = q .bound; total = q .total }) e e′ h (subst (λ z. Going z) (sym r) tt) tt (rw ep at a) refl
-        (record { rises = v .1; below = v .0 .below; total = live-total est lawful t sound N q e′ (v .0) })
-        (λ k ec emo. absurd (not-more no-plan tt emo))
-        (empty-none est lawful t sound N q e′ (v .0) em))
-  advances-stand s n run p p′ e e′ h c (Advances.fills m q d r l tu o a) = 
+      (record { rises = v .1; below = v .0 .below; total = live-total est lawful t sound N q e′ (v .0) })
+      (λ k ec emo. absurd (not-more no-plan tt emo))
+      (empty-none est lawful t sound N q e′ (v .0) em))
+  advances-stand s n run p p′ e e′ h c (Advances.fills m q d r l tu o a) =
       let v = turns-live est lawful t sound N m p q e d (live-at run p e h r) tu in
       let b = overflows-filled est lawful t sound N q p′ d e′ (v .0) o in
       let st : p′ .status ≡ full = ap (λ z. z .status) (o .after) in
       moves s no-room [] false run p p′ e e′ h (subst (λ z. Going z) (sym r) tt) tt a st
-        (ended-after p q p′ (v .1) (b .1))
-        (λ k ec em. absurd (not-more no-room tt em))
-        (subst (λ z. Sits z (s ∷ run) p′ e′) (sym st) (b .0))
+      (ended-after p q p′ (v .1) (b .1))
+      (λ k ec em. absurd (not-more no-room tt em))
+      (subst (λ z. Sits z (s ∷ run) p′ e′) (sym st) (b .0))
 
   same-write : (f g : Find) (b c : List ℕ) → write f b ≡ write g c → b ≡ c
   same-write f g b c q = cc
@@ -268,11 +291,11 @@ module _ {E : Type 0} (est : Estimates E) (lawful : Lawful est) (t : Model) (sou
   writes-stand s f buffer run p e h c (Writes.short is o w l a) = stays s _ _ _ run p e h a tt tt (dry-buffer (refused _) _ s tt)
   writes-stand s f buffer run p e h c (Writes.writes is o w l a) =
       stays s (wrote (text is (f .cost))) _ _ run p e h a tt (f .node, is, o .ends, w, ap (λ z. text is z) (sym (o .costs)))
-        (λ g b v ec ew.
-            let eb : buffer ≡ b = same-write f g buffer b (sym c ∙ ec) in
-            let ev : text is (f .cost) ≡ v = same-wrote (text is (f .cost)) v ew in
-            subst (λ z. Begun t N text z (text is (f .cost) ++ drop (length (text is (f .cost))) buffer) v) eb
-              (subst (λ z. Begun t N text buffer (text is (f .cost) ++ drop (length (text is (f .cost))) buffer) z) ev (record { fits = l; is = refl })))
+      (λ g b v ec ew.
+      let eb : buffer ≡ b = same-write f g buffer b (sym c ∙ ec) in
+      let ev : text is (f .cost) ≡ v = same-wrote (text is (f .cost)) v ew in
+      subst (λ z. Begun t N text z (text is (f .cost) ++ drop (length (text is (f .cost))) buffer) v) eb
+      (subst (λ z. Begun t N text buffer (text is (f .cost) ++ drop (length (text is (f .cost))) buffer) z) ev (record { fits = l; is = refl })))
 
   does-stand : (c : Call) (s : Step) (run : Run) (p p′ : Plain) (e e′ : E) → Stand run p e → s .call ≡ c → Does est t N text c p e (s .answer) p′ e′ → Stand (s ∷ run) p′ e′
   does-stand (start row) s run p p′ e e′ h c d = starts-stand s row run p p′ e e′ h c d
@@ -290,7 +313,10 @@ module _ {E : Type 0} (est : Estimates E) (lawful : Lawful est) (t : Model) (sou
         let f = h .said (gave o) m in
         let w = subst (λ z. Sits z run p e) (f .0) (h .sits) in
         record {
-          plan = w .0 .plan; leads = w .0 .leads; costs = w .0 .costs ∙ sym (f .1); cheapest = rw (f .1) (w .0 .cheapest);
+          plan = w .0 .plan;
+          leads = w .0 .leads;
+          costs = w .0 .costs ∙ sym (f .1);
+          cheapest = rw (f .1) (w .0 .cheapest);
           texts = λ u k.
               let g = h .said (wrote u) k in
               let y : g .0 ≡ o .node = same-find (g .0) (o .node) (sym (g .2) ∙ f .0) in
@@ -307,6 +333,7 @@ module _ {E : Type 0} (est : Estimates E) (lawful : Lawful est) (t : Model) (sou
     where
       same-find : (a b : ℕ) → found a ≡ found b → a ≡ b
       same-find a b q = cc
+
       same-text : (x y : ℕ) (is js : List ℕ) (c : ℕ) → y ≡ x → Way (p .nodes) y is → Way (p .nodes) x js → c ≡ node (p .nodes) x .g → text is (node (p .nodes) y .g) ≡ text js c
       same-text x y is js c q v w e = rw (q, e) (ap (λ z. text z (node (p .nodes) x .g)) (way-one (p .nodes) x is js (rw q at v) w))
 

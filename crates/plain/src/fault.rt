@@ -1,7 +1,6 @@
 // Why a call of the search refuses.
 ghost use mathlib.Core.Path.{_≡_};
 ghost use Rattle.plain.specs.Faults.{causeOf};
-
 use estimator::fault::SetFault;
 use task::cause::Cause;
 
