@@ -43,9 +43,6 @@ module _ (name : ℕ → List ℕ) where
       let c = lines-more i js in
       omega arith)
 
-  pub cut-more : (n i len : ℕ) (is : List ℕ) → len ≡ min (length (lines name is)) n → min (min (len + length (name i)) n + 3) n ≡ min (length (lines name (i ∷ is))) n
-  cut-more n i len is e = let m = lines-more i is in omega arith
-
 cost-length : (c : ℕ) → length (costLine c) ≡ length (decimal c) + 25
 cost-length c = let a = length-append (decimal c) (codes " (general cost)" ++ (10 ∷ [])) in let b = length-append (codes "; cost = ") (decimal c ++ (codes " (general cost)" ++ (10 ∷ []))) in omega arith
 

@@ -24,21 +24,22 @@ fn name_of<'a>(task: &Task<'a>, operator: usize) -> &'a [u8]
 }
 
 impl<'a> Memory<'a> {
-    // How many bytes the lines of the way to node x have, cut where a count of bytes ends.
-    pub fn lines_len(&self, task: &Task<'_>, x: usize) -> usize
+    // How many bytes the lines of the way to node x have: more, perhaps, than a slice can.
+    pub fn lines_len(&self, task: &Task<'_>, x: usize) -> u128
         requires fine { ⌜ Fine (now self) ⌝ }
         requires inside { ⌜ x < now self .held ⌝ }
         requires tree { ⌜ Tree (nodes-of (now self)) ⌝ }
-        ensures { λ r. ⌜ ((is : List ℕ) × Way (nodes-of (now (self .entry))) x is × (r ≡ min (length (lines (operatorName (now (task .entry))) is)) (2 ^ 64 - 1))) ⌝ }
+        ensures way { λ r. ⌜ ((is : List ℕ) × Way (nodes-of (now (self .entry))) x is × (r ≡ length (lines (operatorName (now (task .entry))) is))) ⌝ }
+        ensures low { λ r. ⌜ r ≤ 65535 * 2 ^ 65 ⌝ }
     {
         let mut k = x;
-        let mut len = 0usize;
+        let mut len = 0u128;
         for n in 0..self.held {
             if k == 0 {
                 return len;
             }
             let name = name_of(task, self.nodes[k].operator as usize);
-            len = len.saturating_add(name.len()).saturating_add(3);
+            len += name.len() as u128 + 3;
             k = self.nodes[k].parent as usize;
         }
         len
