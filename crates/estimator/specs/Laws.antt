@@ -22,8 +22,8 @@ SetsT E = E → Model → List ℕ → ℕ → Result (Unit {0}) SetFault → Li
 abbrev pub AnswersT : Type 0 → Type 1
 AnswersT E = E → Model → List ℕ → Option ℕ → E → Type 0
 
--- Spoilt is neither unset nor set. It is owed nothing by an ask, and nothing is owed by an ask about a task that the
--- estimator is not set on, except that no ask makes it unset; a set ends it.
+-- Spoilt is neither unset nor set: an ask about a task that a set estimator is not set on may lead there, and the next
+-- set leads out. Such an ask and any ask while spoilt owe nothing, except that no ask makes the estimator unset.
 pub record Laws {E : Type 0} (unset : E → Type 0) (holds : HoldsT E) (sets : SetsT E) (answers : AnswersT E) : Type 0 where
   -- it is not both unset and set
   pub apart : {s : E} {T : Model} {held : List ℕ} → unset s → holds s T held → ⊥

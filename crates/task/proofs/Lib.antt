@@ -3,3 +3,4 @@ pub mod Actions
 pub mod Cuts
 pub mod NthLines
 pub mod Walks
+pub mod Decided

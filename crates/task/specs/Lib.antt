@@ -1,3 +1,4 @@
+pub mod Tells
 pub mod Causes
 pub mod Records
 pub mod Rules

@@ -3,7 +3,7 @@ ghost use mathlib.Core.Path.{_≡_};
 ghost use mathlib.Core.Bool.{true, false};
 ghost use Prim.Native.Nat.{ℕ, _+_, _<_, _≤_};
 ghost use lib.ListN.{length, getD};
-ghost use Rattle.std.specs.Orderings.{When};
+ghost use Rattle.task.specs.Tells.{Tells};
 ghost use Rattle.std.specs.declared.option.Option.the-variants.{Some};
 ghost use Rattle.task.specs.Rules.{SpanFits, VariablesFit, EntriesFit, RequiredFit, Distinct, OperatorsFit, OperatorsDistinct, EntryRules, Rules};
 ghost use Rattle.task.specs.Records.{zeroOperator, endAt};
@@ -15,14 +15,14 @@ use super::records::Variable;
 
 // Whether the span lies inside a text of that many bytes.
 fn span_fits(span: Span, bytes: usize) -> bool
-    ensures { λ r. ⌜ When r (SpanFits bytes span) (SpanFits bytes span → ⊥) ⌝ }
+    ensures { λ r. ⌜ Tells r (SpanFits bytes span) ⌝ }
 {
     span.from <= span.to && span.to <= bytes
 }
 
 // Whether each variable has values, the initial one among them, and names inside the text.
 fn variables_fit(variables: &[Variable], bytes: usize) -> bool
-    ensures { λ r. ⌜ When r (VariablesFit bytes (now (variables .entry))) (VariablesFit bytes (now (variables .entry)) → ⊥) ⌝ }
+    ensures { λ r. ⌜ Tells r (VariablesFit bytes (now (variables .entry))) ⌝ }
 {
     for variable in variables {
         if !span_fits(variable.name, bytes) {
@@ -40,7 +40,7 @@ fn variables_fit(variables: &[Variable], bytes: usize) -> bool
 
 // Whether each entry names a variable and one of its values.
 fn entries_fit(entries: &[Entry], variables: &[Variable]) -> bool
-    ensures { λ r. ⌜ When r (EntriesFit (now (variables .entry)) (now (entries .entry))) (EntriesFit (now (variables .entry)) (now (entries .entry)) → ⊥) ⌝ }
+    ensures { λ r. ⌜ Tells r (EntriesFit (now (variables .entry)) (now (entries .entry))) ⌝ }
 {
     for entry in entries {
         let variable = entry.variable as usize;
@@ -56,7 +56,7 @@ fn entries_fit(entries: &[Entry], variables: &[Variable]) -> bool
 
 // Whether a required value, if any, is one of a variable's.
 fn is_value(required: Option<u8>, domain: u8) -> bool
-    ensures { λ r. ⌜ When r ((x : ℕ) → required ≡ Some x → x < domain) (((x : ℕ) → required ≡ Some x → x < domain) → ⊥) ⌝ }
+    ensures { λ r. ⌜ Tells r ((x : ℕ) → required ≡ Some x → x < domain) ⌝ }
 {
     match required {
         None => true,
@@ -67,7 +67,7 @@ fn is_value(required: Option<u8>, domain: u8) -> bool
 // Whether each required value is one of its variable's.
 fn required_fit(entries: &[Entry], variables: &[Variable]) -> bool
     requires { ⌜ EntriesInside (now entries) (length (now variables)) ⌝ }
-    ensures { λ r. ⌜ When r (RequiredFit (now (variables .entry)) (now (entries .entry))) (RequiredFit (now (variables .entry)) (now (entries .entry)) → ⊥) ⌝ }
+    ensures { λ r. ⌜ Tells r (RequiredFit (now (variables .entry)) (now (entries .entry))) ⌝ }
 {
     for entry in entries {
         if !is_value(entry.required, variables[entry.variable as usize].domain) {
@@ -80,7 +80,7 @@ fn required_fit(entries: &[Entry], variables: &[Variable]) -> bool
 // Whether no variable is named twice: a mark for each variable that was met.
 fn is_distinct(entries: &[Entry]) -> bool
     requires { ⌜ EntriesInside (now entries) 32 ⌝ }
-    ensures { λ r. ⌜ When r (Distinct (now (entries .entry))) (Distinct (now (entries .entry)) → ⊥) ⌝ }
+    ensures { λ r. ⌜ Tells r (Distinct (now (entries .entry))) ⌝ }
 {
     let mut met = [false; 32];
     for entry in entries {
@@ -95,7 +95,7 @@ fn is_distinct(entries: &[Entry]) -> bool
 
 // Whether each operator has its name inside the text, a price in range, and its entries among so many.
 fn operators_fit(operators: &[Operator], bytes: usize, entries: usize) -> bool
-    ensures { λ r. ⌜ When r (OperatorsFit bytes entries (now (operators .entry))) (OperatorsFit bytes entries (now (operators .entry)) → ⊥) ⌝ }
+    ensures { λ r. ⌜ Tells r (OperatorsFit bytes entries (now (operators .entry))) ⌝ }
 {
     for operator in operators {
         if !span_fits(operator.name, bytes) {
@@ -118,7 +118,7 @@ fn operators_fit(operators: &[Operator], bytes: usize, entries: usize) -> bool
 fn operators_distinct(operators: &[Operator], entries: &[Entry]) -> bool
     requires inside { ⌜ EntriesInside (now entries) 32 ⌝ }
     requires among { ⌜ ((k : ℕ) → k < length (now operators) → endAt (getD (now operators) k zeroOperator) ≤ length (now entries)) ⌝ }
-    ensures { λ r. ⌜ When r (OperatorsDistinct (now (entries .entry)) (now (operators .entry))) (OperatorsDistinct (now (entries .entry)) (now (operators .entry)) → ⊥) ⌝ }
+    ensures { λ r. ⌜ Tells r (OperatorsDistinct (now (entries .entry)) (now (operators .entry))) ⌝ }
 {
     for operator in operators {
         let from = operator.first;
@@ -139,7 +139,7 @@ fn entries_keep_rules(
 ) -> bool
     requires few { ⌜ length (now variables) ≤ 32 ⌝ }
     requires among { ⌜ ((k : ℕ) → k < length (now operators) → endAt (getD (now operators) k zeroOperator) ≤ length (now entries)) ⌝ }
-    ensures { λ r. ⌜ When r (EntryRules (now (variables .entry)) (now (goal .entry)) (now (operators .entry)) (now (entries .entry))) (EntryRules (now (variables .entry)) (now (goal .entry)) (now (operators .entry)) (now (entries .entry)) → ⊥) ⌝ }
+    ensures { λ r. ⌜ Tells r (EntryRules (now (variables .entry)) (now (goal .entry)) (now (operators .entry)) (now (entries .entry))) ⌝ }
 {
     if !entries_fit(goal, variables) {
         return false;
@@ -157,14 +157,14 @@ fn entries_keep_rules(
 }
 
 // Whether text and records keep the rules of a task.
-pub fn keeps_rules(
+pub(crate) fn keeps_rules(
     text: &[u8],
     variables: &[Variable],
     goal: &[Entry],
     operators: &[Operator],
     entries: &[Entry],
 ) -> bool
-    ensures { λ r. ⌜ When r (Rules (now (text .entry)) (now (variables .entry)) (now (goal .entry)) (now (operators .entry)) (now (entries .entry))) (Rules (now (text .entry)) (now (variables .entry)) (now (goal .entry)) (now (operators .entry)) (now (entries .entry)) → ⊥) ⌝ }
+    ensures { λ r. ⌜ Tells r (Rules (now (text .entry)) (now (variables .entry)) (now (goal .entry)) (now (operators .entry)) (now (entries .entry))) ⌝ }
 {
     if variables.len() < 1 || variables.len() > 32 {
         return false;
