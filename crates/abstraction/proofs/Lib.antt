@@ -1,0 +1,4 @@
+pub mod Fills
+pub mod Parts
+pub mod Products
+pub mod TaskParts

@@ -1,0 +1,6 @@
+// A task cut down to a pattern: its abstract states and their ranks, its abstract operators and its abstract goal.
+pub mod abstract_task;
+pub mod cut;
+pub mod fill;
+pub mod part;
+pub mod pattern;
