@@ -4,3 +4,4 @@ pub mod cut;
 pub mod fill;
 pub mod part;
 pub mod pattern;
+pub mod steps;
