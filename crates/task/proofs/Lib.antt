@@ -1,2 +1,6 @@
 pub mod Lists
 pub mod Actions
+pub mod Cuts
+pub mod NthLines
+pub mod Walks
+pub mod Decided

@@ -2,6 +2,11 @@
 pub mod apply;
 pub mod cause;
 pub mod fault;
+pub mod line;
+pub mod make;
+pub mod names;
 pub mod records;
+pub mod rules;
 pub mod state;
 pub mod task;
+pub mod walk;
