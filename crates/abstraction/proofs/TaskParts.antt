@@ -68,7 +68,7 @@ required-fits t a b v k x l q r =
     let es = t .entries .now in
     let p = part-at es a b k zeroEntry l in
     let e : Entry = getD es (a + k) zeroEntry in
-    let w : x < getD (model t .domains) (e .variable) 0 = subst (λ z. x < z) (sym (domain-at (t .variables .now) (e .variable))) (t .«required_fit» (a + k) x (p .1) (sym (ap (λ z. z .required) (p .2)) ∙ r)) in
+    let w : x < getD (model t .domains) (e .variable) 0 = subst (λ z. x < z) (sym (domain-at (t .variables .now) (e .variable))) (t .«required_fit» (a + k) (p .1) x (sym (ap (λ z. z .required) (p .2)) ∙ r)) in
     subst (λ z. x < getD (model t .domains) z 0) (sym (ap (λ z. z .variable) (p .2)) ∙ q) w
 
 -- the place of an operator's entries
