@@ -64,7 +64,7 @@ pub record Kept (s s' : Projection) (T : Model) : Type 0 where
 -- refused: it is unset, and the row, the pattern and all of the memory stay
 pub record Refused (s : Projection) (row left : List ℕ) (s' : Projection) : Type 0 where
   pub ready : s' .ready ≡ false
-  pub left : left ≡ row
+  pub stays : left ≡ row
   pub pattern : s' .pattern .now ≡ s .pattern .now
   pub table : s' .table .now ≡ s .table .now
   pub entries : s' .entries .now ≡ s .entries .now
@@ -78,7 +78,7 @@ pub record Accepted (s : Projection) (T : Model) (row left : List ℕ) (s' : Pro
   pub serves : Serves s' T
   pub table : IsTable (projected T (s' .pattern .now)) row (distances s' T)
   pub long : length left ≡ length row
-  pub left : LeavesHeld (projected T (s' .pattern .now)) (distances s' T) row left
+  pub leaves : LeavesHeld (projected T (s' .pattern .now)) (distances s' T) row left
 
 pub data Sets (s : Projection) (T : Model) (row : List ℕ) (n : ℕ) (r : Result (Unit {0}) SetFault) (left : List ℕ) (s' : Projection) : Type 0 where
   takes : Offer T row → IsPattern T (s .pattern .now) → HasRoom s T → r ≡ Ok tt → Accepted s T row left s' → Sets s T row n r left s'

@@ -1,0 +1,6 @@
+pub mod Distances
+pub mod Lowering
+pub mod Relaxing
+pub mod Running
+pub mod Saturation
+pub mod Steps
