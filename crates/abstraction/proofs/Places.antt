@@ -71,13 +71,16 @@ updated-long s (e ∷ es) = updated-long (set s (e .variable) (e .value)) es ∙
 pub places : (A : AbstractTask) → length (abstractOf A .domains) ≡ length (A .pattern .now)
 places A = length-map (A .pattern .now) (λ v. getD (model (A .task .now) .domains) v 0)
 
-pub number-low : (A : AbstractTask) (o : ℕ) → o < length (abstractOf A .operators) → o < 256
-number-low A o h =
+pub operators-long : (A : AbstractTask) → length (abstractOf A .operators) ≡ length (A .task .now .operators .now)
+operators-long A =
     let t = A .task .now in
-    let a = length-map (model t .operators) (cutAction (A .pattern .now)) in
-    let b = length-map (t .operators .now) (action (t .entries .now)) in
-    let c = t .listed in
-    omega arith
+    length-map (model t .operators) (cutAction (A .pattern .now)) ∙ length-map (t .operators .now) (action (t .entries .now))
+
+pub operators-low : (A : AbstractTask) → length (abstractOf A .operators) ≤ 256
+operators-low A = let a = operators-long A in let c = A .task .now .listed in omega arith
+
+pub number-low : (A : AbstractTask) (o : ℕ) → o < length (abstractOf A .operators) → o < 256
+number-low A o h = let l = operators-low A in omega arith
 
 pub domain-low : (A : AbstractTask) (i : ℕ) → Stands A → i < length (A .pattern .now) → getD (abstractOf A .domains) i 0 ≤ 255
 domain-low A i st h =

@@ -54,11 +54,11 @@ below-strict : (table : List ℕ) (x y n k : ℕ) → k < n → x ≤ getD table
 below-strict table x y zero k h l m = absurd (omega arith)
 below-strict table x y (suc n) k h l m = ⊎-elim
     (λ e. let d = getD table n 0 in
-      let same : getD table k 0 ≡ d = ap (λ z. getD table z 0) e in
-      let a = cond-false {A = ℕ} (ltb d x) 1 0 (le-ltb d x (omega arith)) in
-      let b = cond-true {A = ℕ} (ltb d y) 1 0 (lt-ltb d y (omega arith)) in
-      let c = below-mono table x y n (omega arith) in
-      omega arith)
+    let same : getD table k 0 ≡ d = ap (λ z. getD table z 0) e in
+    let a = cond-false {A = ℕ} (ltb d x) 1 0 (le-ltb d x (omega arith)) in
+    let b = cond-true {A = ℕ} (ltb d y) 1 0 (lt-ltb d y (omega arith)) in
+    let c = below-mono table x y n (omega arith) in
+    omega arith)
     (λ ne. let a = one-more (getD table n 0) x y (omega arith) in let b = below-strict table x y n k (omega arith) l m in omega arith)
     (cases-eq k n)
 
@@ -87,13 +87,13 @@ entry-low P row table s (o ∷ p) c low t st plan e =
     let ih = entry-low P row table b p c low t bs (plan .1) same in
     let price = low o in
     ⊎-elim
-      (λ l.
-        let k = state-rank P table b (t .long) bs in
-        let i : below table db n + 1 ≤ below table da n = below-strict table db da n (rank (P .domains) b) k (omega arith) l in
-        let d = mul-le-mul-left 65535 i in
-        omega arith)
-      (λ l. let q : db ≡ da = omega arith in subst (λ z. z ≤ 65535 * below table z n) q ih)
-      (cases-lt db da)
+    (λ l.
+    let k = state-rank P table b (t .long) bs in
+    let i : below table db n + 1 ≤ below table da n = below-strict table db da n (rank (P .domains) b) k (omega arith) l in
+    let d = mul-le-mul-left 65535 i in
+    omega arith)
+    (λ l. let q : db ≡ da = omega arith in subst (λ z. z ≤ 65535 * below table z n) q ih)
+    (cases-lt db da)
 
 same-state : (P : Model) (row table b : List ℕ) (k d : ℕ) → IsState P b → rank (P .domains) b ≡ k → (w : Witness P row k d) → w .from ≡ b
 same-state P row table b k d bs e w = rank-same (P .domains) (w .from) b (state-fit P (w .from) (w .state)) (state-fit P b bs) (w .ranked ∙ sym e)
@@ -120,14 +120,14 @@ settled-table P row table c low t s st =
     let k = state-rank P table s (t .long) st in
     let d = entry P table s in
     ⊎-elim
-      (λ e. subst (IsDistance P row s) (sym (cond-true (eqb d 4294967295) None (Some d) (eq-eqb d 4294967295 e)))
-        (λ p plan. entry-present P row table s p c low t st plan e))
-      (λ ne.
-        let w = t .sound (rank (P .domains) s) k ne in
-        let same = same-state P row table s (rank (P .domains) s) d st refl w in
-        subst (IsDistance P row s) (sym (cond-false (eqb d 4294967295) None (Some d) (ne-eqb d 4294967295 ne)))
-          ((w .plan, subst (λ z. Plan P z (w .plan)) same (w .plans), w .costs), λ p plan. entry-below P row table s p c t st plan))
-      (cases-eq d 4294967295)
+    (λ e. subst (IsDistance P row s) (sym (cond-true (eqb d 4294967295) None (Some d) (eq-eqb d 4294967295 e)))
+    (λ p plan. entry-present P row table s p c low t st plan e))
+    (λ ne.
+    let w = t .sound (rank (P .domains) s) k ne in
+    let same = same-state P row table s (rank (P .domains) s) d st refl w in
+    subst (IsDistance P row s) (sym (cond-false (eqb d 4294967295) None (Some d) (ne-eqb d 4294967295 ne)))
+    ((w .plan, subst (λ z. Plan P z (w .plan)) same (w .plans), w .costs), λ p plan. entry-below P row table s p c t st plan))
+    (cases-eq d 4294967295)
 
 unique-distance : (P : Model) (row s : List ℕ) (x y : Option ℕ) → IsDistance P row s x → IsDistance P row s y → x ≡ y
 unique-distance P row s None None h k = refl
@@ -144,13 +144,13 @@ unique-distance P row s (Some m) (Some n) h k =
 unique-held : (P : Model) (table : List ℕ) (o x y : ℕ) → IsHeld P table o x → IsHeld P table o y → x ≡ y
 unique-held P table o x y h k = ⊎-elim
     (λ (a : x ≡ 0). ⊎-elim
-      (λ (b : y ≡ 0). omega arith)
-      (λ b. let l = h .largest (b .0) (b .1) (b .2) in let e = b .3 in omega arith)
-      (k .reached))
+    (λ (b : y ≡ 0). omega arith)
+    (λ b. let l = h .largest (b .0) (b .1) (b .2) in let e = b .3 in omega arith)
+    (k .reached))
     (λ a. let l = k .largest (a .0) (a .1) (a .2) in let e = a .3 in ⊎-elim
-      (λ (b : y ≡ 0). omega arith)
-      (λ b. let m = h .largest (b .0) (b .1) (b .2) in let f = b .3 in omega arith)
-      (k .reached))
+    (λ (b : y ≡ 0). omega arith)
+    (λ b. let m = h .largest (b .0) (b .1) (b .2) in let f = b .3 in omega arith)
+    (k .reached))
     (h .reached)
 
 pub one-meaning : OneMeaning

@@ -1,3 +1,4 @@
+pub mod Answering
 pub mod Distances
 pub mod Lowering
 pub mod Relaxing

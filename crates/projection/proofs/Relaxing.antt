@@ -26,6 +26,9 @@ relaxed-then C d t t' t'' q q' q'' r s = record {
 
 pub relaxed-wider : (C D : ℕ → Type 0) (d : ℕ) (t t' : List ℕ) (q q' : Queue RankEntry) → ((k : ℕ) → C k → D k) → Relaxed C d t q t' q' → Relaxed D d t q t' q'
 relaxed-wider C D d t t' q q' w r = record {
-  long = r .long; less = r .less; quiet = r .quiet; falls = r .falls;
+  long = r .long;
+  less = r .less;
+  quiet = r .quiet;
+  falls = r .falls;
   cause = λ k. ⊎-elim (λ e. inl e) (λ e. inr (w k (e .0), e .1)) (r .cause k);
 }

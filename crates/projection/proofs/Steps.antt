@@ -43,11 +43,12 @@ steps-from A o i [] (x ∷ xs) ys l m h = absurd (omega arith)
 steps-from A o i (d ∷ ds) [] ys l m h = absurd (omega arith)
 steps-from A o i (d ∷ ds) (x ∷ xs) [] l m h = absurd (omega arith)
 steps-from A o i (d ∷ ds) (x ∷ xs) (y ∷ ys) l m h =
-    let e : i + 0 ≡ i = omega arith in
-    (subst (λ z. StepAt A o z d x y) e (h 0 (omega arith)),
-     steps-from A o (suc i) ds xs ys (omega arith) (omega arith) (λ j k.
-       let f : i + suc j ≡ suc i + j = omega arith in
-       subst (λ z. StepAt A o z (getD ds j 0) (getD xs j 0) (getD ys j 0)) f (h (suc j) (omega arith))))
+    let e : i + 0 ≡ i = omega arith in (
+      subst (λ z. StepAt A o z d x y) e (h 0 (omega arith)),
+      steps-from A o (suc i) ds xs ys (omega arith) (omega arith) (λ j k.
+          let f : i + suc j ≡ suc i + j = omega arith in
+          subst (λ z. StepAt A o z (getD ds j 0) (getD xs j 0) (getD ys j 0)) f (h (suc j) (omega arith))),
+    )
 
 -- past the last place
 pub preceding-end : (A : AbstractTask) (o : ℕ) (b : List ℕ) (i f : ℕ) → length (abstractOf A .domains) ≤ i → length b ≤ i → Preceding A o b i f f
@@ -76,33 +77,37 @@ preceding-cons A o b i f k x w h l e s p =
       steps = subst (λ z. StepsFrom A o i z (x ∷ p .values) (drop i b)) (sym (drop-cons ds i 0 h))
           (subst (λ z. StepsFrom A o i (getD ds i 0 ∷ drop (suc i) ds) (x ∷ p .values) z) (sym (drop-cons b i 0 l)) (s, rest));
       here =
-        (let q : rank (drop i ds) (x ∷ p .values) ≡ x * product (drop (suc i) ds) + rank (drop (suc i) ds) (p .values) = ap (λ z. rank z (x ∷ p .values)) (drop-cons ds i 0 h) in
-         let u : x * w ≡ x * product (drop (suc i) ds) = ap (λ z. x * z) (e ∙ ap (λ z. product (drop z ds)) (add-one i)) in
-         let v : rank (drop (i + 1) ds) (p .values) ≡ rank (drop (suc i) ds) (p .values) = ap (λ z. rank (drop z ds) (p .values)) (add-one i) in
-         let g = p .here in
-         omega arith);
+          (let q : rank (drop i ds) (x ∷ p .values) ≡ x * product (drop (suc i) ds) + rank (drop (suc i) ds) (p .values) = ap (λ z. rank z (x ∷ p .values)) (drop-cons ds i 0 h) in
+          let u : x * w ≡ x * product (drop (suc i) ds) = ap (λ z. x * z) (e ∙ ap (λ z. product (drop z ds)) (add-one i)) in
+          let v : rank (drop (i + 1) ds) (p .values) ≡ rank (drop (suc i) ds) (p .values) = ap (λ z. rank (drop z ds) (p .values)) (add-one i) in
+          let g = p .here in
+          omega arith);
     }
 
 pub preceding-first : (A : AbstractTask) (o : ℕ) (b : List ℕ) (i f k w : ℕ) → i < length (abstractOf A .domains) → i < length b → w ≡ product (drop (i + 1) (abstractOf A .domains))
     → Preceding A o b i f k → (x : ℕ) × StepAt A o i (getD (abstractOf A .domains) i 0) x (getD b i 0) × Preceding A o b (i + 1) (f + x * w) k
 preceding-first A o b i f k w h l e p =
     go (p .values) (subst (λ z. StepsFrom A o i z (p .values) (drop i b)) (drop-cons (abstractOf A .domains) i 0 h) (p .steps))
-      (p .here ∙ ap (λ z. f + rank z (p .values)) (drop-cons (abstractOf A .domains) i 0 h))
+    (p .here ∙ ap (λ z. f + rank z (p .values)) (drop-cons (abstractOf A .domains) i 0 h))
   where
     ds : List ℕ
     ds = abstractOf A .domains
+
     go : (xs : List ℕ) → StepsFrom A o i (getD (abstractOf A .domains) i 0 ∷ drop (suc i) (abstractOf A .domains)) xs (drop i b) → k ≡ f + rank (getD (abstractOf A .domains) i 0 ∷ drop (suc i) (abstractOf A .domains)) xs
-      → (x : ℕ) × StepAt A o i (getD (abstractOf A .domains) i 0) x (getD b i 0) × Preceding A o b (i + 1) (f + x * w) k
+        → (x : ℕ) × StepAt A o i (getD (abstractOf A .domains) i 0) x (getD b i 0) × Preceding A o b (i + 1) (f + x * w) k
     go [] s q = absurd s
     go (x ∷ xs) s q =
         let t = subst (StepsFrom A o i (getD (abstractOf A .domains) i 0 ∷ drop (suc i) (abstractOf A .domains)) (x ∷ xs)) (drop-cons b i 0 l) s in
         let u : x * w ≡ x * product (drop (suc i) (abstractOf A .domains)) = ap (λ z. x * z) (e ∙ ap (λ z. product (drop z (abstractOf A .domains))) (add-one i)) in
-        let v : rank (drop (i + 1) (abstractOf A .domains)) xs ≡ rank (drop (suc i) (abstractOf A .domains)) xs = ap (λ z. rank (drop z (abstractOf A .domains)) xs) (add-one i) in
-        (x, t .0, record {
-          values = xs;
-          steps = subst (λ z. StepsFrom A o z (drop z (abstractOf A .domains)) xs (drop z b)) (sym (add-one i)) (t .1);
-          here = omega arith;
-        })
+        let v : rank (drop (i + 1) (abstractOf A .domains)) xs ≡ rank (drop (suc i) (abstractOf A .domains)) xs = ap (λ z. rank (drop z (abstractOf A .domains)) xs) (add-one i) in (
+          x,
+          t .0,
+          record {
+            values = xs;
+            steps = subst (λ z. StepsFrom A o z (drop z (abstractOf A .domains)) xs (drop z b)) (sym (add-one i)) (t .1);
+            here = omega arith;
+          },
+        )
 
 -- a state from which operator o leads to the rank r
 pub record Before (P : Model) (o r k : ℕ) : Type 0 where
@@ -120,12 +125,12 @@ preceding-step A o b k st h is p =
     let n = places A in
     let long = steps-long A o 0 (P .domains) a b (p .steps) in
     let each : (j : ℕ) → j < length (P .domains) → StepAt A o j (getD (P .domains) j 0) (getD a j 0) (getD b j 0) =
-      λ j l. let e : 0 + j ≡ j = omega arith in subst (λ z. StepAt A o z (getD (P .domains) j 0) (getD a j 0) (getD b j 0)) e (steps-each A o 0 (P .domains) a b (p .steps) j l) in
+    λ j l. let e : 0 + j ≡ j = omega arith in subst (λ z. StepAt A o z (getD (P .domains) j 0) (getD a j 0) (getD b j 0)) e (steps-each A o 0 (P .domains) a b (p .steps) j l) in
     let state : IsState P a = record { long = long .0; within = λ j l. each j (let q = long .0 in omega arith) .within } in
     let bs = applied-state A a o st h state in
     let same : applied P a o ≡ b = ext-getD 0 (applied P a o) b (bs .long ∙ sym (is .long)) (λ j l.
-      let k' : j < length (A .pattern .now) = (let q = bs .long in omega arith) in
-      applied-at A a o j st h state k' ∙ each j (omega arith) .leads) in
+    let k' : j < length (A .pattern .now) = (let q = bs .long in omega arith) in
+    applied-at A a o j st h state k' ∙ each j (omega arith) .leads) in
     record {
       from = a;
       state = state;
@@ -145,13 +150,13 @@ step-preceding A s o b st is a e =
     record {
       values = s;
       steps = steps-from A o 0 (P .domains) s b (is .long) lb (λ j l.
-        let z : j ≡ 0 + j = omega arith in
-        let k : j < length (A .pattern .now) = omega arith in
-        subst (λ i. StepAt A o i (getD (P .domains) j 0) (getD s j 0) (getD b j 0)) z (record {
-          within = is .within j (let q = is .long in omega arith);
-          admits = applies-at A s o j st k a;
-          leads = sym (applied-at A s o j st h is k) ∙ ap (λ x. getD x j 0) e;
-        }));
+          let z : j ≡ 0 + j = omega arith in
+          let k : j < length (A .pattern .now) = omega arith in
+          subst (λ i. StepAt A o i (getD (P .domains) j 0) (getD s j 0) (getD b j 0)) z (record {
+            within = is .within j (let q = is .long in omega arith);
+            admits = applies-at A s o j st k a;
+            leads = sym (applied-at A s o j st h is k) ∙ ap (λ x. getD x j 0) e;
+          }));
       here = omega arith;
     }
 

@@ -17,7 +17,14 @@ use task::task::Task;
 
 // Fills the entries of the pattern's ranks, takes the held prices off the row and answers the pattern's weights. The table
 // beyond the ranks stays.
-pub fn compute(table: &mut [u32], entries: &mut [RankEntry], places: &mut [u32], task: &Task<'_>, row: &mut [u32], pattern: &[u8]) -> [u32; 8]
+pub fn compute(
+    table: &mut [u32],
+    entries: &mut [RankEntry],
+    places: &mut [u32],
+    task: &Task<'_>,
+    row: &mut [u32],
+    pattern: &[u8],
+) -> [u32; 8]
     requires offer { ⌜ Offer (model (now task)) (now row) ⌝ }
     requires pattern { ⌜ IsPattern (model (now task)) (now pattern) ⌝ }
     requires few { ⌜ product (sizes (model (now task)) (now pattern)) ≤ 65536 ⌝ }

@@ -18,7 +18,11 @@ use queue::entries::RankEntry;
 use queue::entries::RankOrder;
 
 // Starts the distances: 0 for each abstract goal state, which is queued, and none for the others.
-fn seed(table: &mut [u32], queue: &mut Queue<'_, RankEntry>, abstract_task: &AbstractTask<'_, '_, '_>)
+fn seed(
+    table: &mut [u32],
+    queue: &mut Queue<'_, RankEntry>,
+    abstract_task: &AbstractTask<'_, '_, '_>,
+)
     requires open { ⌜ Open (now table) (now queue) ⌝ }
     requires none { ⌜ ((k : ℕ) → content rankItem (now queue) k ≡ None) ⌝ }
     requires stands { ⌜ Stands (now «abstract_task») ⌝ }
@@ -36,7 +40,13 @@ fn seed(table: &mut [u32], queue: &mut Queue<'_, RankEntry>, abstract_task: &Abs
 }
 
 // Lowers the entries of the ranks from which any operator leads to a rank.
-fn expand(table: &mut [u32], queue: &mut Queue<'_, RankEntry>, abstract_task: &AbstractTask<'_, '_, '_>, row: &[u32], rank: u32)
+fn expand(
+    table: &mut [u32],
+    queue: &mut Queue<'_, RankEntry>,
+    abstract_task: &AbstractTask<'_, '_, '_>,
+    row: &[u32],
+    rank: u32,
+)
     requires running { ⌜ Running (abstractOf (now «abstract_task»)) (now row) (LeftFrom rank 0) (now table) (now queue) ⌝ }
     requires stands { ⌜ Stands (now «abstract_task») ⌝ }
     requires row { ⌜ length (now row) ≡ length (abstractOf (now «abstract_task») .operators) ⌝ }
@@ -53,7 +63,12 @@ fn expand(table: &mut [u32], queue: &mut Queue<'_, RankEntry>, abstract_task: &A
 }
 
 // Expands the rank of the least entry, until none is queued.
-fn expand_all(table: &mut [u32], queue: &mut Queue<'_, RankEntry>, abstract_task: &AbstractTask<'_, '_, '_>, row: &[u32])
+fn expand_all(
+    table: &mut [u32],
+    queue: &mut Queue<'_, RankEntry>,
+    abstract_task: &AbstractTask<'_, '_, '_>,
+    row: &[u32],
+)
     requires running { ⌜ Running (abstractOf (now «abstract_task»)) (now row) NoneLeft (now table) (now queue) ⌝ }
     requires stands { ⌜ Stands (now «abstract_task») ⌝ }
     requires row { ⌜ length (now row) ≡ length (abstractOf (now «abstract_task») .operators) ⌝ }
@@ -65,7 +80,13 @@ fn expand_all(table: &mut [u32], queue: &mut Queue<'_, RankEntry>, abstract_task
 }
 
 // Fills a table of one entry a rank with the distances.
-pub fn fill_distances(table: &mut [u32], entries: &mut [RankEntry], places: &mut [u32], abstract_task: &AbstractTask<'_, '_, '_>, row: &[u32])
+pub fn fill_distances(
+    table: &mut [u32],
+    entries: &mut [RankEntry],
+    places: &mut [u32],
+    abstract_task: &AbstractTask<'_, '_, '_>,
+    row: &[u32],
+)
     requires stands { ⌜ Stands (now «abstract_task») ⌝ }
     requires row { ⌜ length (now row) ≡ length (abstractOf (now «abstract_task») .operators) ⌝ }
     requires long { ⌜ length (now table) ≡ product (abstractOf (now «abstract_task») .domains) ⌝ }

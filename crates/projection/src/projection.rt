@@ -25,11 +25,23 @@ pub struct Projection<'p, 't, 'e, 'q> {
 
 impl<'p, 't, 'e, 'q> Projection<'p, 't, 'e, 'q> {
     // Over a pattern, a lent table and lent queue memory, and unset.
-    pub fn new(pattern: &'p [u8], table: &'t mut [u32], entries: &'e mut [RankEntry], places: &'q mut [u32]) -> Projection<'p, 't, 'e, 'q>
+    pub fn new(
+        pattern: &'p [u8],
+        table: &'t mut [u32],
+        entries: &'e mut [RankEntry],
+        places: &'q mut [u32],
+    ) -> Projection<'p, 't, 'e, 'q>
         ensures unset { λ r. ⌜ Unset r ⌝ }
         ensures meaning { λ _. ⌜ OneMeaning ⌝ }
     {
-        Projection { ready: false, pattern, weights: [0; 8], table, entries, places }
+        Projection {
+            ready: false,
+            pattern,
+            weights: [0; 8],
+            table,
+            entries,
+            places,
+        }
     }
 }
 
@@ -51,16 +63,39 @@ pub impl<'p, 't, 'e, 'q> Estimator for Projection<'p, 't, 'e, 'q> as ProjectionE
     fn set(&mut self, task: &Task<'_>, row: &mut [u32], layer: u16) -> Result<(), SetFault> {
         self.ready = false;
         if !is_offer(task, row) {
-            return Err(SetFault { cause: Cause::Row, kind: KIND, layer });
+            return Err(SetFault {
+                cause: Cause::Row,
+                kind: KIND,
+                layer,
+            });
         }
         if !is_pattern(task, self.pattern) {
-            return Err(SetFault { cause: Cause::Pattern, kind: KIND, layer });
+            return Err(SetFault {
+                cause: Cause::Pattern,
+                kind: KIND,
+                layer,
+            });
         }
         let count = rank_count(task, self.pattern) as usize;
-        if count > 65536 || self.table.len() < count || self.entries.len() < count || self.places.len() < count {
-            return Err(SetFault { cause: Cause::Table, kind: KIND, layer });
+        if count > 65536
+            || self.table.len() < count
+            || self.entries.len() < count
+            || self.places.len() < count
+        {
+            return Err(SetFault {
+                cause: Cause::Table,
+                kind: KIND,
+                layer,
+            });
         }
-        let Projection { ready, pattern, weights, table, entries, places } = self;
+        let Projection {
+            ready,
+            pattern,
+            weights,
+            table,
+            entries,
+            places,
+        } = self;
         *weights = compute(table, entries, places, task, row, pattern);
         *ready = true;
         Ok(())
@@ -80,6 +115,10 @@ pub impl<'p, 't, 'e, 'q> Estimator for Projection<'p, 't, 'e, 'q> as ProjectionE
             return Some(0);
         }
         let distance = self.table[rank as usize];
-        if distance == u32::MAX { None } else { Some(distance) }
+        if distance == u32::MAX {
+            None
+        } else {
+            Some(distance)
+        }
     }
 }

@@ -6,7 +6,8 @@ ghost use Rattle.projection.specs.Projection.{weighed, Known};
 
 // The rank that the weights give a row: the sum of each pattern variable's value times its weight. None where the row lacks
 // a variable of the pattern, or that has more than 8.
-pub fn rank_in(pattern: &[u8], weights: &[u32; 8], state: &[u8]) -> Option<u64>
+pub(crate) fn rank_in(pattern: &[u8], weights: &[u32], state: &[u8]) -> Option<u64>
+    requires { ⌜ length (now weights) ≡ 8 ⌝ }
     ensures { λ r. ⌜ BySome r (Known (now (pattern .entry)) (now (state .entry)) → ⊥) (λ n. Known (now (pattern .entry)) (now (state .entry)) × (n ≡ weighed (now (pattern .entry)) (now (weights .entry)) (now (state .entry)) (length (now (pattern .entry))))) ⌝ }
 {
     if pattern.len() > 8 {

@@ -14,7 +14,16 @@ use queue::entries::RankOrder;
 
 // Lowers the entry of each rank from which the operator leads to the state. The places before `place` are settled: their
 // values add `from` to the rank.
-pub fn relax(table: &mut [u32], queue: &mut Queue<'_, RankEntry>, abstract_task: &AbstractTask<'_, '_, '_>, operator: usize, state: &[u8], place: usize, from: u32, distance: u32)
+pub fn relax(
+    table: &mut [u32],
+    queue: &mut Queue<'_, RankEntry>,
+    abstract_task: &AbstractTask<'_, '_, '_>,
+    operator: usize,
+    state: &[u8],
+    place: usize,
+    from: u32,
+    distance: u32,
+)
     requires open { ⌜ Open (now table) (now queue) ⌝ }
     requires stands { ⌜ Stands (now «abstract_task») ⌝ }
     requires number { ⌜ operator < length (abstractOf (now «abstract_task») .operators) ⌝ }
@@ -34,6 +43,15 @@ pub fn relax(table: &mut [u32], queue: &mut Queue<'_, RankEntry>, abstract_task:
     let weight = abstract_task.weights[place];
     let (low, high) = values_before(part, abstract_task.domains[place], state[place]);
     for value in low..high {
-        relax(table, queue, abstract_task, operator, state, place + 1, from + value * weight, distance);
+        relax(
+            table,
+            queue,
+            abstract_task,
+            operator,
+            state,
+            place + 1,
+            from + value * weight,
+            distance,
+        );
     }
 }

@@ -17,35 +17,39 @@ fn larger(price: u32, here: u32, there: u32) -> u32
         return price;
     }
     let difference = here as i64 - there as i64;
-    if difference > price as i64 { difference as u32 } else { price }
+    if difference > price as i64 {
+        difference as u32
+    } else {
+        price
+    }
 }
 
 // Raises each operator's price to the difference along its step from a rank, if it leads on from there.
 fn raise(held: &mut [u32], table: &[u32], abstract_task: &AbstractTask<'_, '_, '_>, rank: u32)
     requires stands { ⌜ Stands (now «abstract_task») ⌝ }
-    requires held { ⌜ length (now held) ≡ length (abstractOf (now «abstract_task») .operators) ⌝ }
+    requires held { ⌜ length (abstractOf (now «abstract_task») .operators) ≤ length (now held) ⌝ }
     requires long { ⌜ length (now table) ≡ product (abstractOf (now «abstract_task») .domains) ⌝ }
     requires rank { ⌜ rank < length (now table) ⌝ }
-    requires below { ⌜ ((o : ℕ) → o < length (now held) → HeldBelow (abstractOf (now «abstract_task»)) (now table) o rank (getD (now held) o 0)) ⌝ }
-    ensures { λ _. ⌜ ((o : ℕ) → o < length (now (held .entry)) → HeldBelow (abstractOf (now («abstract_task» .entry))) (now (table .entry)) o (rank + 1) (getD (now (held .exit)) o 0)) ⌝ }
+    requires below { ⌜ ((o : ℕ) → o < length (abstractOf (now «abstract_task») .operators) → HeldBelow (abstractOf (now «abstract_task»)) (now table) o rank (getD (now held) o 0)) ⌝ }
+    ensures { λ _. ⌜ ((o : ℕ) → o < length (abstractOf (now («abstract_task» .entry)) .operators) → HeldBelow (abstractOf (now («abstract_task» .entry))) (now (table .entry)) o (rank + 1) (getD (now (held .exit)) o 0)) ⌝ }
 {
     let digits = abstract_task.state_of(rank);
     let state = &digits[0..abstract_task.pattern.len()];
-    for operator in 0..held.len() {
+    for operator in 0..abstract_task.task.operators.len() {
         if let Some(next) = abstract_task.successor(operator, state) {
             held[operator] = larger(held[operator], table[rank as usize], table[next as usize]);
         }
     }
 }
 
-// Raises prices that are all 0 to the held prices.
-fn raise_all(held: &mut [u32], table: &[u32], abstract_task: &AbstractTask<'_, '_, '_>)
+// Writes the held price of each operator.
+fn fill_held(held: &mut [u32], table: &[u32], abstract_task: &AbstractTask<'_, '_, '_>)
     requires stands { ⌜ Stands (now «abstract_task») ⌝ }
-    requires held { ⌜ length (now held) ≡ length (abstractOf (now «abstract_task») .operators) ⌝ }
-    requires zero { ⌜ ((o : ℕ) → o < length (now held) → getD (now held) o 0 ≡ 0) ⌝ }
+    requires held { ⌜ length (abstractOf (now «abstract_task») .operators) ≤ length (now held) ⌝ }
     requires long { ⌜ length (now table) ≡ product (abstractOf (now «abstract_task») .domains) ⌝ }
-    ensures { λ _. ⌜ ((o : ℕ) → o < length (now (held .entry)) → IsHeld (abstractOf (now («abstract_task» .entry))) (now (table .entry)) o (getD (now (held .exit)) o 0)) ⌝ }
+    ensures { λ _. ⌜ ((o : ℕ) → o < length (abstractOf (now («abstract_task» .entry)) .operators) → IsHeld (abstractOf (now («abstract_task» .entry))) (now (table .entry)) o (getD (now (held .exit)) o 0)) ⌝ }
 {
+    held.fill(0);
     let count = table.len() as u32;
     for rank in 0..count {
         raise(held, table, abstract_task, rank);
@@ -60,8 +64,7 @@ pub fn saturate(table: &[u32], abstract_task: &AbstractTask<'_, '_, '_>, row: &m
     ensures { λ _. ⌜ LeavesHeld (abstractOf (now («abstract_task» .entry))) (now (table .entry)) (now (row .entry)) (now (row .exit)) ⌝ }
 {
     let mut held = [0; 256];
-    let count = row.len();
-    raise_all(&mut held[0..count], table, abstract_task);
+    fill_held(&mut held, table, abstract_task);
     for operator in 0..row.len() {
         row[operator] -= held[operator];
     }

@@ -32,12 +32,18 @@ held-covers T pattern row table held s (o ∷ p) f w tab hold st plan m e =
     let l : length (P .operators) ≡ length (T .operators) = length-map (T .operators) (cutAction pattern) in
     let listed = number T s o (plan .0) in
     let go : (x : Option ℕ) → at P table b ≡ x → m ≤ getD held o 0 + Cost held p = λ x. elim x as (λ x. at P table b ≡ x → m ≤ getD held o 0 + Cost held p) [
-        Some n ↦ λ q.
+      | Some n ↦ λ q.
           let d : m ≤ n + getD held o 0 = hold .each o (omega arith) .largest m n (record {
-            from = a; state = abstract-state T pattern s w st; applies = abstract-applies T pattern s o (plan .0); here = e; there = ap (at P table) (sym leads) ∙ q }) in
+            from = a;
+            state = abstract-state T pattern s w st;
+            applies = abstract-applies T pattern s o (plan .0);
+            here = e;
+            there = ap (at P table) (sym leads) ∙ q;
+          }) in
           let r : n ≤ Cost held p = held-covers T pattern row table held t p f w tab hold next (plan .1) n q in
           omega arith
-      | None ↦ λ q. absurd (subst (IsDistance P row b) q (tab b (abstract-state T pattern t w next)) p (abstract-plan T pattern t p f w next (plan .1))) ] in
+      | None ↦ λ q. absurd (subst (IsDistance P row b) q (tab b (abstract-state T pattern t w next)) p (abstract-plan T pattern t p f w next (plan .1)))
+    ] in
     go (at P table b) refl
 
 -- the answer from the table keeps to what an estimator owes

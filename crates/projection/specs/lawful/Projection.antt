@@ -42,16 +42,22 @@ accepted-holds {s' = s'} {T = T} {row = row} {left = left} o a =
           (λ (h : length row ≤ k). let b = getD-past row k 0 h in let c = getD-past left k 0 (let q = a .long in omega arith) in omega arith)
           (cases-lt k (length row));
     } in
-    let lo = length-map (T .operators) (cutAction (s' .pattern .now)) in
-    (held,
-     record {
-       ready = a .ready; formed = a .formed; serves = a .serves; offer = held-offer T row held left o shares; row = row; table = a .table;
-       prices = record {
-         long = lh ∙ o .long ∙ sym lo;
-         each = λ k h. let q = o .long in subst (IsHeld (projected T (s' .pattern .now)) (distances s' T) k) (sym (at k)) (a .leaves k (omega arith) .1);
-       };
-     },
-     shares)
+    let lo = length-map (T .operators) (cutAction (s' .pattern .now)) in (
+      held,
+      record {
+        ready = a .ready;
+        formed = a .formed;
+        serves = a .serves;
+        offer = held-offer T row held left o shares;
+        row = row;
+        table = a .table;
+        prices = record {
+          long = lh ∙ o .long ∙ sym lo;
+          each = λ k h. let q = o .long in subst (IsHeld (projected T (s' .pattern .now)) (distances s' T) k) (sym (at k)) (a .leaves k (omega arith) .1);
+        };
+      },
+      shares,
+    )
 
 accepts-law : {s s' : Projection} {T : Model} {row left : List ℕ} {n : ℕ} → Sets s T row n (Ok tt) left s' → (held : List ℕ) × Holds s' T held × Shares row held left
 accepts-law (takes o p m r a) = accepted-holds o a

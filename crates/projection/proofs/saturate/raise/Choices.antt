@@ -7,4 +7,4 @@ use Rattle.projection.proofs.saturate.raise.Given as given
 abbrev pub Inv-loop-operator : given.InvT-loop-operator
 Inv-loop-operator l =
     ((o : ℕ) → o < l .operator → HeldBelow (abstractOf (l .abstract-task)) (l .table) o (l .rank + 1) (getD (l .held) o 0))
-    × ((o : ℕ) → l .operator ≤ o → o < length (l .held) → HeldBelow (abstractOf (l .abstract-task)) (l .table) o (l .rank) (getD (l .held) o 0))
+    × ((o : ℕ) → l .operator ≤ o → o < length (abstractOf (l .abstract-task) .operators) → HeldBelow (abstractOf (l .abstract-task)) (l .table) o (l .rank) (getD (l .held) o 0))

@@ -57,17 +57,17 @@ returns g c =
     let e = c .args .sifted in
     let carried = c .loop-hole .inv .0 in
     let settled : HeapOrdered noLater (set xs i e) n =
-            elim (c .loop-hole-test .came) [
-              else-loop-hole-test w ↦ up-top noLater (order g) (set xs i e) (set xs i e) n i (carried .within) (omega (arith, w .loop-hole-test .left)) (c .loop-hole .inv .1)
-            | then-loop-hole-test·then-no-later-than w ↦
-                let apart : parent i ≡ i → ⊥ = λ z. omega (arith, w .loop-hole-test .taken) in
-                let lp : parent i < length xs = omega (arith, carried .within, carried .indexed .fits, length-set xs i e) in
-                up-end noLater (order g) (set xs i e) (set xs i e) n i (carried .within) (c .loop-hole .inv .1)
-                (λ d.
-                    compared noLater _ _ _ _
-                    (getD-set-other xs i (parent i) e d apart ∙ getD-default xs (parent i) d (w .index-self-parent .result) lp)
-                    (getD-set-same xs i e d (hole-in _ _ _ _ _ _ _ _ _ _ carried)) (sym (w .if-no-later-than .ensures tt)))
-            ] in
+    elim (c .loop-hole-test .came) [
+      | else-loop-hole-test w ↦ up-top noLater (order g) (set xs i e) (set xs i e) n i (carried .within) (omega (arith, w .loop-hole-test .left)) (c .loop-hole .inv .1)
+      | then-loop-hole-test·then-no-later-than w ↦
+          let apart : parent i ≡ i → ⊥ = λ z. omega (arith, w .loop-hole-test .taken) in
+          let lp : parent i < length xs = omega (arith, carried .within, carried .indexed .fits, length-set xs i e) in
+          up-end noLater (order g) (set xs i e) (set xs i e) n i (carried .within) (c .loop-hole .inv .1)
+          (λ d.
+          compared noLater _ _ _ _
+          (getD-set-other xs i (parent i) e d apart ∙ getD-default xs (parent i) d (w .index-self-parent .result) lp)
+          (getD-set-same xs i e d (hole-in _ _ _ _ _ _ _ _ _ _ carried)) (sym (w .if-no-later-than .ensures tt)))
+    ] in
     record {
       sound = record {
         indexed = subst (λ z. Indexed itemOf (set xs i e) (set (c .loop-hole .self .places .now) z i) n) (sym (c .item-item .ensures)) (carried .indexed);
