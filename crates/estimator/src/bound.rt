@@ -1,7 +1,6 @@
 ghost use Rattle.std.specs.Results.{Cases};
-ghost use mathlib.Core.Path.{_≡_};
 ghost use Rattle.task.specs.Model.{model};
-ghost use Rattle.estimator.specs.Bound.{Bound};
+ghost use Rattle.estimator.specs.Bound.{Bound, Refused};
 use super::estimator::Estimator;
 use super::fault::SetFault;
 use task::task::Task;
@@ -14,7 +13,7 @@ pub fn lower_bound<E: Estimator>(
     row: &mut [u32],
     state: &[u8],
 ) -> Result<Option<u32>, SetFault>
-    ensures { λ r. ⌜ Cases r (λ answer. Bound holds (model (now (task .entry))) (now (row .entry)) (now (row .exit)) (now (state .entry)) answer (now (estimator .exit))) (λ _. unset (now (estimator .exit)) × (now (row .exit) ≡ now (row .entry))) ⌝ }
+    ensures { λ r. ⌜ Cases r (λ answer. Bound holds sets answers (now (estimator .entry)) (model (now (task .entry))) (now (row .entry)) (now (row .exit)) (now (state .entry)) answer (now (estimator .exit))) (λ fault. Refused unset sets (now (estimator .entry)) (model (now (task .entry))) (now (row .entry)) (now (row .exit)) fault (now (estimator .exit))) ⌝ }
 {
     estimator.set(task, row, 1)?;
     Ok(estimator.estimate(task, state))

@@ -157,7 +157,7 @@ fn entries_keep_rules(
 }
 
 // Whether text and records keep the rules of a task.
-pub fn keeps_rules(
+pub(crate) fn keeps_rules(
     text: &[u8],
     variables: &[Variable],
     goal: &[Entry],

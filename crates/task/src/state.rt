@@ -9,7 +9,7 @@ use super::records::Entry;
 use super::task::Task;
 
 // Whether each fact of the entries holds in the row.
-pub fn all_hold(entries: &[Entry], row: &[u8]) -> bool
+pub(crate) fn all_hold(entries: &[Entry], row: &[u8]) -> bool
     requires { ⌜ EntriesInside (now entries) (length (now row)) ⌝ }
     ensures { λ r. ⌜ Tells r (AllHold (now (row .entry)) (now (entries .entry))) ⌝ }
 {
