@@ -9,7 +9,7 @@ use task::records::Entry;
 use task::task::Task;
 
 // The value that the facts give the variable, if one speaks of it.
-pub fn value_on(facts: &[Entry], variable: u8) -> Option<u8>
+fn value_on(facts: &[Entry], variable: u8) -> Option<u8>
     ensures { λ r. ⌜ r ≡ valueOn variable (now (facts .entry)) ⌝ }
 {
     for fact in facts {
@@ -21,7 +21,7 @@ pub fn value_on(facts: &[Entry], variable: u8) -> Option<u8>
 }
 
 // The effect on the variable, if there is one.
-pub fn effect_on(effects: &[Entry], variable: u8) -> OperatorPart
+fn effect_on(effects: &[Entry], variable: u8) -> OperatorPart
     ensures { λ r. ⌜ r ≡ effectOn variable (now (effects .entry)) ⌝ }
 {
     for effect in effects {
@@ -39,7 +39,7 @@ pub fn effect_on(effects: &[Entry], variable: u8) -> OperatorPart
 }
 
 // The operator cut down to the variable. No operator names a variable twice, so an effect on it leaves no condition on it.
-pub fn operator_part(task: &Task<'_>, operator: usize, variable: u8) -> OperatorPart
+pub(crate) fn operator_part(task: &Task<'_>, operator: usize, variable: u8) -> OperatorPart
     requires { ⌜ operator < length (now (now task .operators)) ⌝ }
     ensures { λ r. ⌜ PartOf (operatorOf (model (now (task .entry))) operator) variable (getD (model (now (task .entry)) .domains) variable 0) r ⌝ }
 {
@@ -58,7 +58,7 @@ pub fn operator_part(task: &Task<'_>, operator: usize, variable: u8) -> Operator
 }
 
 // The goal cut down to the variable: the value that it has in a goal state, if the goal speaks of it.
-pub fn goal_part(task: &Task<'_>, variable: u8) -> Option<u8>
+pub(crate) fn goal_part(task: &Task<'_>, variable: u8) -> Option<u8>
     ensures { λ r. ⌜ GoalPart (model (now (task .entry)) .goal) variable r ⌝ }
 {
     value_on(task.goal, variable)

@@ -14,7 +14,7 @@ use super::abstract_task::AbstractTask;
 use super::part::OperatorPart;
 
 // Whether a value is the required one, if any is required.
-pub fn admits(required: Option<u8>, value: u8) -> bool
+fn admits(required: Option<u8>, value: u8) -> bool
     ensures { λ r. ⌜ When r (Admits value required) (Admits value required → ⊥) ⌝ }
 {
     match required {
@@ -24,7 +24,7 @@ pub fn admits(required: Option<u8>, value: u8) -> bool
 }
 
 // The value of a variable after a step in which it was `before`.
-pub fn value_after(part: OperatorPart, before: u8) -> u8
+fn value_after(part: OperatorPart, before: u8) -> u8
     ensures { λ r. ⌜ r ≡ orElse (part .value) before ⌝ }
 {
     match part.value {

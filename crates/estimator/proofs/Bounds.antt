@@ -9,7 +9,7 @@ use Rattle.estimator.specs.Bound.{Bound}
 use Rattle.estimator.specs.lawful.Rows.{at-offer}
 
 pub bound-by-laws : {E : Type 0} {unset : E → Type 0} {holds : HoldsT E} {sets : SetsT E} {answers : AnswersT E} {entry between exit : E} {T : Model} {offered left row : List ℕ} {a : Option ℕ}
-  → Laws unset holds sets answers → sets entry T offered 1 (Ok tt) left between → answers between T row a exit → Bound holds sets answers entry T offered left row a exit
+    → Laws unset holds sets answers → sets entry T offered 1 (Ok tt) left between → answers between T row a exit → Bound holds sets answers entry T offered left row a exit
 bound-by-laws {between = between} {T = T} {offered = offered} {left = left} {row = row} {a = a} laws x y =
     let taken = laws .accepts x in
     record {

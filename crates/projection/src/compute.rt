@@ -17,7 +17,7 @@ use task::task::Task;
 
 // Fills the entries of the pattern's ranks, takes the held prices off the row and answers the pattern's weights. The table
 // beyond the ranks stays.
-pub fn compute(
+pub(crate) fn compute(
     table: &mut [u32],
     entries: &mut [RankEntry],
     places: &mut [u32],

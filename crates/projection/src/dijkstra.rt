@@ -80,7 +80,7 @@ fn expand_all(
 }
 
 // Fills a table of one entry a rank with the distances.
-pub fn fill_distances(
+pub(crate) fn fill_distances(
     table: &mut [u32],
     entries: &mut [RankEntry],
     places: &mut [u32],

@@ -7,7 +7,7 @@ use queue::entries::RankEntry;
 use queue::entries::RankOrder;
 
 // Lowers the entry of a rank to a distance, if it is greater, and queues the rank.
-pub fn lower(table: &mut [u32], queue: &mut Queue<'_, RankEntry>, rank: u32, distance: u32)
+pub(crate) fn lower(table: &mut [u32], queue: &mut Queue<'_, RankEntry>, rank: u32, distance: u32)
     requires { ⌜ Open (now table) (now queue) ⌝ ∗ ⌜ rank < length (now table) ⌝ }
     ensures open { λ _. ⌜ Open (now (table .exit)) (now (queue .exit)) ⌝ }
     ensures relaxed { λ _. ⌜ Relaxed (λ k. k ≡ rank) distance (now (table .entry)) (now (queue .entry)) (now (table .exit)) (now (queue .exit)) ⌝ }

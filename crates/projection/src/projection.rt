@@ -1,3 +1,4 @@
+ghost use mathlib.Core.Path.{_≡_};
 ghost use Rattle.projection.specs.Distances.{OneMeaning};
 ghost use Rattle.projection.specs.Projection.{Unset, Holds, Sets, Answers};
 ghost use Rattle.projection.specs.lawful.Projection.{projection-laws};
@@ -32,6 +33,10 @@ impl<'p, 't, 'e, 'q> Projection<'p, 't, 'e, 'q> {
         places: &'q mut [u32],
     ) -> Projection<'p, 't, 'e, 'q>
         ensures unset { λ r. ⌜ Unset r ⌝ }
+        ensures pattern { λ r. ⌜ now (r .pattern) ≡ now (pattern .entry) ⌝ }
+        ensures table { λ r. ⌜ now (r .table) ≡ now (table .entry) ⌝ }
+        ensures entries { λ r. ⌜ now (r .entries) ≡ now (entries .entry) ⌝ }
+        ensures places { λ r. ⌜ now (r .places) ≡ now (places .entry) ⌝ }
         ensures meaning { λ _. ⌜ OneMeaning ⌝ }
     {
         Projection {
@@ -45,10 +50,8 @@ impl<'p, 't, 'e, 'q> Projection<'p, 't, 'e, 'q> {
     }
 }
 
-const KIND: u8 = 2;
-
 pub impl<'p, 't, 'e, 'q> Estimator for Projection<'p, 't, 'e, 'q> as ProjectionEstimator {
-    const KIND: u8 = KIND;
+    const KIND: u8 = 2;
 
     ghost unset = { Unset };
 
@@ -65,14 +68,14 @@ pub impl<'p, 't, 'e, 'q> Estimator for Projection<'p, 't, 'e, 'q> as ProjectionE
         if !is_offer(task, row) {
             return Err(SetFault {
                 cause: Cause::Row,
-                kind: KIND,
+                kind: Self::KIND,
                 layer,
             });
         }
         if !is_pattern(task, self.pattern) {
             return Err(SetFault {
                 cause: Cause::Pattern,
-                kind: KIND,
+                kind: Self::KIND,
                 layer,
             });
         }
@@ -84,7 +87,7 @@ pub impl<'p, 't, 'e, 'q> Estimator for Projection<'p, 't, 'e, 'q> as ProjectionE
         {
             return Err(SetFault {
                 cause: Cause::Table,
-                kind: KIND,
+                kind: Self::KIND,
                 layer,
             });
         }

@@ -14,7 +14,7 @@ use queue::entries::RankOrder;
 
 // Lowers the entry of each rank from which the operator leads to the state. The places before `place` are settled: their
 // values add `from` to the rank.
-pub fn relax(
+pub(crate) fn relax(
     table: &mut [u32],
     queue: &mut Queue<'_, RankEntry>,
     abstract_task: &AbstractTask<'_, '_, '_>,

@@ -57,7 +57,7 @@ fn fill_held(held: &mut [u32], table: &[u32], abstract_task: &AbstractTask<'_, '
 }
 
 // Takes the held price of each operator off the row.
-pub fn saturate(table: &[u32], abstract_task: &AbstractTask<'_, '_, '_>, row: &mut [u32])
+pub(crate) fn saturate(table: &[u32], abstract_task: &AbstractTask<'_, '_, '_>, row: &mut [u32])
     requires stands { ⌜ Stands (now «abstract_task») ⌝ }
     requires row { ⌜ length (now row) ≡ length (abstractOf (now «abstract_task») .operators) ⌝ }
     requires settled { ⌜ Settled (abstractOf (now «abstract_task»)) (now row) (now table) ⌝ }

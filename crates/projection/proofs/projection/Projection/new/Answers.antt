@@ -4,4 +4,4 @@ use Rattle.projection.proofs.Distances.{one-meaning}
 use Rattle.projection.proofs.projection.Projection.new.Needs as need
 
 pub returns : need.returns
-returns c = record { unset = refl; meaning = one-meaning }
+returns c = record { unset = refl; pattern = refl; table = refl; entries = refl; places = refl; meaning = one-meaning }
