@@ -28,7 +28,7 @@ EntriesFit vs es = (k : ℕ) → k < length es →
 
 -- a required value is one of the variable's too
 abbrev pub RequiredFit : List Variable → List Entry → Type 0
-RequiredFit vs es = (k x : ℕ) → k < length es → getD es k zeroEntry .required ≡ Some x →
+RequiredFit vs es = (k : ℕ) → k < length es → (x : ℕ) → getD es k zeroEntry .required ≡ Some x →
     x < getD vs (getD es k zeroEntry .variable) zeroVariable .domain
 
 -- no variable is named twice
@@ -44,6 +44,14 @@ OperatorsFit n m os = (k : ℕ) → k < length os →
 abbrev pub OperatorsDistinct : List Entry → List Operator → Type 0
 OperatorsDistinct es os = (k : ℕ) → k < length os → Distinct (part es (getD os k zeroOperator .first) (endAt (getD os k zeroOperator)))
 
+-- goal facts, entries and the operators' entries keep the rules
+pub record EntryRules (vs : List Variable) (goal : List Entry) (os : List Operator) (es : List Entry) : Type 0 where
+  pub goal-fits : EntriesFit vs goal
+  pub goal-distinct : Distinct goal
+  pub entries-fit : EntriesFit vs es
+  pub required-fit : RequiredFit vs es
+  pub operators-distinct : OperatorsDistinct es os
+
 -- text, variables, goal facts, operators and entries that state a task
 pub record Rules (text : List ℕ) (vs : List Variable) (goal : List Entry) (os : List Operator) (es : List Entry) : Type 0 where
   pub some : 1 ≤ length vs
@@ -51,9 +59,5 @@ pub record Rules (text : List ℕ) (vs : List Variable) (goal : List Entry) (os 
   pub listed : length os ≤ 256
   pub stored : length es ≤ 4096
   pub variables-fit : VariablesFit (length text) vs
-  pub goal-fits : EntriesFit vs goal
-  pub goal-distinct : Distinct goal
   pub operators-fit : OperatorsFit (length text) (length es) os
-  pub entries-fit : EntriesFit vs es
-  pub required-fit : RequiredFit vs es
-  pub operators-distinct : OperatorsDistinct es os
+  pub entries : EntryRules vs goal os es

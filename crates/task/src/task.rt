@@ -1,7 +1,6 @@
 ghost use Prim.Native.Nat.{ℕ, _<_, _≤_};
 ghost use lib.ListN.{length};
 ghost use Rattle.task.specs.Rules.{VariablesFit, EntriesFit, RequiredFit, Distinct, OperatorsFit, OperatorsDistinct};
-
 use super::records::Entry;
 use super::records::Operator;
 use super::records::Variable;
