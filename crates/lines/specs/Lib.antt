@@ -1,4 +1,4 @@
-pub mod Lines
+pub mod Printable
 pub mod Numbers
 pub mod Reading
 pub mod Views

@@ -10,7 +10,8 @@ use Rattle.task.specs.declared.cause.Cause.{Cause}
 use Rattle.task.specs.declared.cause.Cause.the-variants as cause
 use Rattle.task.specs.declared.fault.Fault.{Fault}
 use Rattle.task.specs.declared.records.Span.{Span}
-use Rattle.lines.specs.Lines.{cutLine, printable}
+use Rattle.task.specs.Lines.{cutLine}
+use Rattle.lines.specs.Printable.{printable}
 use Rattle.lines.specs.Numbers.{numberOf, withinOf, belowOf}
 
 -- where a reading stands: the bytes left, how many bytes and lines were taken, the operator whose lines are read

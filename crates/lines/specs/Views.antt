@@ -11,11 +11,6 @@ use Rattle.lines.specs.declared.cursor.Cursor.{Cursor}
 use Rattle.lines.specs.declared.number.Number.{Number}
 use Rattle.lines.specs.Reading.{Place, Step, refused, read}
 
--- two parts of a slice
-abbrev pub parts : Option (RefT (List ℕ) × RefT (List ℕ)) → Option (List ℕ × List ℕ)
-parts None = None
-parts (Some p) = Some (p .0 .now, p .1 .now)
-
 -- a number and a part of a slice
 abbrev pub numberAndPart : Option (Number × RefT (List ℕ)) → Option (Number × List ℕ)
 numberAndPart None = None

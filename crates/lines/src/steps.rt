@@ -1,10 +1,10 @@
 use crate::cursor::Cursor;
-use crate::line::cut_line;
 use crate::line::is_printable;
 use crate::number::Number;
 use crate::number::same;
 use task::cause::Cause;
 use task::fault::Fault;
+use task::line::cut_line;
 use task::records::Span;
 ghost use Prim.Native.Nat.{ℕ, _+_, _≤_, _<_};
 ghost use lib.ListN.{length};

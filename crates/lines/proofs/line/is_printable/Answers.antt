@@ -7,7 +7,7 @@ use lib.Dec.{leb}
 use lib.ListN.{drop, getD}
 use Rattle.std.proofs.shelf.Lists.{at-drop-more, at-drop-all}
 use Rattle.std.proofs.shelf.Ways.{tells}
-use Rattle.lines.specs.Lines.{printable}
+use Rattle.lines.specs.Printable.{printable}
 use Rattle.lines.proofs.line.is_printable.Needs as need
 
 pub returns-then-b-lt32 : need.returns-then-b-lt32

@@ -1,6 +1,6 @@
 use mathlib.Core.Path.{_≡_}
 use lib.ListN.{drop}
-use Rattle.lines.specs.Lines.{printable}
+use Rattle.lines.specs.Printable.{printable}
 use Rattle.lines.proofs.line.is_printable.Given as given
 
 abbrev pub Inv-loop-b : given.InvT-loop-b
