@@ -1,0 +1,5 @@
+pub mod Variables
+pub mod Entries
+pub mod Operators
+pub mod Whole
+pub mod Views

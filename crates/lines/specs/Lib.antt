@@ -1,0 +1,4 @@
+pub mod Printable
+pub mod Numbers
+pub mod Reading
+pub mod Views
