@@ -13,6 +13,7 @@ pub mod reader;
 pub mod search;
 pub mod task;
 
+pub mod cases;
 pub mod damage;
 pub mod generate;
 pub mod options;
