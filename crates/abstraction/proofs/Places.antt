@@ -12,9 +12,9 @@ use Rattle.std.proofs.shelf.Lists.{getD-map}
 use Rattle.std.proofs.shelf.Tests.{cases-eq, eq-eqb, ne-eqb, cond-true, cond-false}
 use Rattle.std.specs.declared.option.Option.{Option}
 use Rattle.std.specs.declared.option.Option.the-variants.{Some, None}
-use Rattle.task.specs.declared.records.Entry.{Entry}
+use Rattle.tables.specs.declared.records.Entry.{Entry}
 use Rattle.task.specs.Model.{Model, IsState, AllHold, Admits, AllAdmit, updated, operator, IsGoal, Applies, applied, model, action}
-use Rattle.task.proofs.Lists.{domain-at}
+use Rattle.tables.proofs.Lists.{domain-at}
 use Rattle.abstraction.specs.declared.abstract_task.AbstractTask.{AbstractTask}
 use Rattle.abstraction.specs.Projected.{keptAt, cutDown, cutAction, projected}
 use Rattle.abstraction.specs.Parts.{HoldsAt, AdmitsAt, valueAfter, orElse, untouched, PartOf}

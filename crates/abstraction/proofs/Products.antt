@@ -12,7 +12,7 @@ use Rattle.std.proofs.shelf.Tests.{cases-lt}
 use Rattle.std.proofs.shelf.Lists.{getD-map, drop-map}
 use Rattle.task.specs.declared.task.Task.{Task}
 use Rattle.task.specs.Model.{Model, model}
-use Rattle.task.proofs.Lists.{domain-at}
+use Rattle.tables.proofs.Lists.{domain-at}
 use Rattle.abstraction.specs.Patterns.{IsPattern}
 use Rattle.abstraction.specs.Projected.{sizes}
 use Rattle.abstraction.specs.Ranks.{product}

@@ -8,13 +8,13 @@ use lib.ListN.{length, getD, take, drop, length-take, length-drop}
 use lib.Seq.{getD-take, getD-drop}
 use Rattle.std.specs.declared.option.Option.{Option}
 use Rattle.std.specs.declared.option.Option.the-variants.{Some, None}
-use Rattle.task.specs.declared.records.Entry.{Entry}
-use Rattle.task.specs.declared.records.Operator.{Operator}
+use Rattle.tables.specs.declared.records.Entry.{Entry}
+use Rattle.tables.specs.declared.records.Operator.{Operator}
 use Rattle.task.specs.declared.task.Task.{Task}
-use Rattle.task.specs.Records.{zeroEntry, zeroOperator, zeroVariable, part, effectsAt, endAt}
-use Rattle.task.specs.Rules.{Distinct, OperatorsDistinct}
+use Rattle.tables.specs.Records.{zeroEntry, zeroOperator, zeroVariable, part, effectsAt, endAt}
+use Rattle.tables.specs.Rules.{Distinct, OperatorsDistinct}
 use Rattle.task.specs.Model.{Model, Action, Admits, model, operator, action, idle}
-use Rattle.task.proofs.Lists.{domain-at, part-at}
+use Rattle.tables.proofs.Lists.{domain-at, part-at}
 use Rattle.task.proofs.Actions.{action-at}
 use Rattle.abstraction.specs.declared.part.OperatorPart.{OperatorPart}
 use Rattle.abstraction.specs.Parts.{HoldsAt, AdmitsAt, valueOn, effectOn, PartOf, GoalPart}

@@ -6,7 +6,7 @@ use Prim.Native.Nat.{ℕ, _<_}
 use lib.Dec.{eqb}
 use Rattle.std.specs.declared.option.Option.{Option}
 use Rattle.std.specs.declared.option.Option.the-variants.{Some, None}
-use Rattle.task.specs.declared.records.Entry.{Entry}
+use Rattle.tables.specs.declared.records.Entry.{Entry}
 use Rattle.task.specs.Model.{Action, Admits}
 use Rattle.abstraction.specs.declared.part.OperatorPart.{OperatorPart}
 

@@ -5,7 +5,7 @@ ghost use lib.ListN.{length, getD};
 ghost use Rattle.task.specs.Model.{model, operator as operatorOf};
 ghost use Rattle.abstraction.specs.Parts.{valueOn, effectOn, PartOf, GoalPart};
 use super::part::OperatorPart;
-use task::records::Entry;
+use tables::records::Entry;
 use task::task::Task;
 
 // The value that the facts give the variable, if one speaks of it.

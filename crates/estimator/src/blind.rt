@@ -3,7 +3,7 @@ ghost use Rattle.estimator.specs.lawful.Blind.{blind-laws};
 use super::estimator::Estimator;
 use super::fault::SetFault;
 use super::row::is_offer;
-use task::cause::Cause;
+use tables::cause::Cause;
 use task::task::Task;
 
 // Holds 0 for every operator, and answers 0.

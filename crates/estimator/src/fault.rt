@@ -1,4 +1,4 @@
-use task::cause::Cause;
+use tables::cause::Cause;
 
 // A set that is refused: the cause, the kind number of the estimator that refuses, and its layer number in the pile.
 #[derive(Clone, Copy)]

@@ -7,7 +7,7 @@ use super::price_table::PriceTable;
 use estimator::estimator::Estimator;
 use estimator::fault::SetFault;
 use estimator::row::is_offer;
-use task::cause::Cause;
+use tables::cause::Cause;
 use task::task::Task;
 
 // The kind number of a maximum.

@@ -4,7 +4,7 @@ ghost use Rattle.layers_tests.specs.lawful.Leaf.{leaf-laws};
 use estimator::estimator::Estimator;
 use estimator::fault::SetFault;
 use estimator::row::is_offer;
-use task::cause::Cause;
+use tables::cause::Cause;
 use task::task::Task;
 
 // Takes every price that it is offered, or refuses every set with TABLE; it answers 0.

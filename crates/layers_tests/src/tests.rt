@@ -8,11 +8,11 @@ use layers::maximum::MaximumEstimator;
 use layers::partition::Partition;
 use layers::partition::PartitionEstimator;
 use std::test::*;
-use task::records::Counts;
-use task::records::Entry;
-use task::records::Operator;
-use task::records::Span;
-use task::records::Variable;
+use tables::records::Counts;
+use tables::records::Entry;
+use tables::records::Operator;
+use tables::records::Span;
+use tables::records::Variable;
 use task::task::Task;
 
 const VARIABLES: [Variable; 1] = [Variable {

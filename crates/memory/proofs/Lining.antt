@@ -9,7 +9,7 @@ use lib.ListN.{length, getD, drop, length-append, List·getD-eq-default}
 use lib.Chars.{codes}
 use Rattle.std.specs.Written.{decimal}
 use Rattle.task.specs.declared.task.Task.{Task}
-use Rattle.task.specs.Records.{zeroOperator, spanned}
+use Rattle.tables.specs.Records.{zeroOperator, spanned}
 use Rattle.task.specs.Names.{operatorName}
 use Rattle.text.specs.Lines.{line, costLine}
 use Rattle.plain.specs.Plain.{Node, node, Way}

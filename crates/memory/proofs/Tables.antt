@@ -11,7 +11,7 @@ use lib.ListN.{length, getD, set, take, drop, length-set, length-append, length-
 use lib.Seq.{getD-set-same, getD-set-other, getD-append-seam, set-append-left, set-append-seam, getD-take, getD-drop, length-take-le}
 use Rattle.std.specs.Orderings.{Decides, When}
 use Rattle.plain.proofs.Splits.{lt-or-le}
-use Rattle.task.proofs.Lists.{same-list}
+use Rattle.tables.proofs.Lists.{same-list}
 use Rattle.task.specs.Model.{Model, IsGoal}
 use Rattle.memory.specs.declared.node.Node.{Node}
 use Rattle.memory.specs.Rows.{rows, blank}

@@ -1,8 +1,8 @@
 -- The faults of the search's calls: the number in the fault table that each has, and the values that it carries.
 use mathlib.Core.List.{List, [], _∷_}
 use Prim.Native.Nat.{ℕ}
-use Rattle.task.specs.declared.cause.Cause.{Cause}
-use Rattle.task.specs.Causes.{numberOf}
+use Rattle.tables.specs.declared.cause.Cause.{Cause}
+use Rattle.tables.specs.Causes.{numberOf}
 use Rattle.plain.specs.declared.fault.Fault.{Fault}
 use Rattle.plain.specs.declared.fault.Fault.the-variants.{Own, Set}
 

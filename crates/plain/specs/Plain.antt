@@ -8,8 +8,8 @@ use lib.ListN.{length, getD, set, drop}
 use Rattle.std.specs.declared.result.Result.the-variants.{Ok, Err}
 use Rattle.estimator.specs.Laws.{Laws, HoldsT, SetsT, AnswersT}
 use Rattle.estimator.specs.declared.fault.SetFault.{SetFault}
-use Rattle.task.specs.declared.cause.Cause.{Cause}
-use Rattle.task.specs.declared.cause.Cause.the-variants as cause
+use Rattle.tables.specs.declared.cause.Cause.{Cause}
+use Rattle.tables.specs.declared.cause.Cause.the-variants as cause
 use Rattle.plain.specs.declared.fault.Fault.{Fault}
 use Rattle.plain.specs.declared.fault.Fault.the-variants.{Own, Set}
 use Rattle.std.specs.declared.option.Option.{Option}

@@ -2,7 +2,7 @@
 ghost use mathlib.Core.Path.{_≡_};
 ghost use Rattle.plain.specs.Faults.{causeOf};
 use estimator::fault::SetFault;
-use task::cause::Cause;
+use tables::cause::Cause;
 
 // A cause of the search's own, or the fault of the estimator that a start sets.
 #[derive(Clone, Copy)]

@@ -8,7 +8,7 @@ use Rattle.std.specs.declared.option.Option.{Option}
 use Rattle.std.specs.declared.option.Option.the-variants.{Some, None}
 use Rattle.std.specs.declared.result.Result.{Result}
 use Rattle.std.specs.declared.result.Result.the-variants.{Ok, Err}
-use Rattle.task.specs.declared.cause.Cause.the-variants.{Row, Pattern, Table}
+use Rattle.tables.specs.declared.cause.Cause.the-variants.{Row, Pattern, Table}
 use Rattle.task.specs.Model.{Model, IsState, WellFormed}
 use Rattle.estimator.specs.Price.{Offer}
 use Rattle.estimator.specs.declared.fault.SetFault.{SetFault}

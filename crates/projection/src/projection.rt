@@ -10,7 +10,7 @@ use estimator::estimator::Estimator;
 use estimator::fault::SetFault;
 use estimator::row::is_offer;
 use queue::entries::RankEntry;
-use task::cause::Cause;
+use tables::cause::Cause;
 use task::task::Task;
 
 // Answers the distances of the abstraction of a task to a pattern. Once it is set, the weights give a state's rank.

@@ -5,9 +5,9 @@ use layers::partition::PartitionEstimator;
 use projection::projection::Projection;
 use projection::projection::ProjectionEstimator;
 use std::test::*;
-use task::records::Entry;
-use task::records::Operator;
-use task::records::Variable;
+use tables::records::Entry;
+use tables::records::Operator;
+use tables::records::Variable;
 
 // The sofa (hall, den, loft) and the door (shut, open); the goal is the sofa in the loft.
 fn variables() -> [Variable; 2] {

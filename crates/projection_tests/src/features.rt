@@ -1,8 +1,8 @@
 use super::records::*;
 use std::test::*;
-use task::records::Entry;
-use task::records::Operator;
-use task::records::Variable;
+use tables::records::Entry;
+use tables::records::Operator;
+use tables::records::Variable;
 
 fn variables() -> [Variable; 3] {
     [variable(3), variable(1), variable(2)]

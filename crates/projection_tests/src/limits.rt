@@ -1,9 +1,9 @@
 use super::records::*;
 use queue::entries::RankEntry;
 use std::test::*;
-use task::records::Entry;
-use task::records::Operator;
-use task::records::Variable;
+use tables::records::Entry;
+use tables::records::Operator;
+use tables::records::Variable;
 use task::task::Task;
 
 fn entries() -> [Entry; 2] {

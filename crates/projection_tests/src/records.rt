@@ -2,11 +2,11 @@ use estimator::estimator::Estimator;
 use projection::projection::Projection;
 use projection::projection::ProjectionEstimator;
 use queue::entries::RankEntry;
-use task::records::Counts;
-use task::records::Entry;
-use task::records::Operator;
-use task::records::Span;
-use task::records::Variable;
+use tables::records::Counts;
+use tables::records::Entry;
+use tables::records::Operator;
+use tables::records::Span;
+use tables::records::Variable;
 use task::task::Task;
 
 pub const NO_ENTRY: RankEntry = RankEntry {

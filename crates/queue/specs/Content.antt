@@ -10,8 +10,8 @@ use Rattle.std.specs.declared.option.Option.{Option}
 use Rattle.std.specs.declared.option.Option.the-variants.{Some, None}
 use Rattle.std.specs.declared.result.Result.{Result}
 use Rattle.std.specs.declared.result.Result.the-variants.{Ok, Err}
-use Rattle.task.specs.declared.cause.Cause.{Cause}
-use Rattle.task.specs.declared.cause.Cause.the-variants as cause
+use Rattle.tables.specs.declared.cause.Cause.{Cause}
+use Rattle.tables.specs.declared.cause.Cause.the-variants as cause
 use Rattle.queue.specs.declared.Queue.{Queue}
 use Rattle.queue.specs.Heap.{Room, Indexed, HeapOrdered}
 

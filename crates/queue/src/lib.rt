@@ -10,7 +10,7 @@ ghost use Rattle.std.specs.declared.option.Option.the-variants.{Some, None};
 ghost use Rattle.queue.specs.Heap.{HeapOrdered, Indexed, OrderedButAbove, OrderedButBelow};
 ghost use Rattle.queue.specs.Content.{content, Sound, Rows, Changed, Resized, Put, Taken};
 ghost use Rattle.queue.specs.Sifting.{Located, LeastChild, Hole, Filled};
-use task::cause::Cause;
+use tables::cause::Cause;
 
 // What a queue holds: an entry names its item and stands in a total order with all others.
 pub trait QueueEntry: Copy {

@@ -14,7 +14,7 @@ use Rattle.std.specs.declared.option.Option.{Option}
 use Rattle.std.specs.declared.option.Option.the-variants.{Some, None}
 use Rattle.std.specs.declared.result.Result.{Result}
 use Rattle.std.specs.declared.result.Result.the-variants.{Ok, Err}
-use Rattle.task.specs.declared.cause.Cause.{Cause}
+use Rattle.tables.specs.declared.cause.Cause.{Cause}
 use Rattle.queue.specs.declared.Queue.{Queue}
 use Rattle.queue.specs.declared.entries.SearchEntry.{SearchEntry}
 use Rattle.queue.specs.Content.{content, Takes, Rows, Changed, Put, FirstTaken}

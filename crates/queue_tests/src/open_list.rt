@@ -8,7 +8,7 @@ use queue::Queue;
 use queue::QueueEntry;
 use queue::entries::SearchEntry;
 use queue::entries::SearchOrder;
-use task::cause::Cause;
+use tables::cause::Cause;
 
 #[derive(Drop)]
 pub struct OpenList<'a> {

@@ -5,7 +5,7 @@ use Prim.Native.Nat.{ℕ}
 use lib.ListN.{length}
 use Rattle.std.specs.declared.result.Result.{Result}
 use Rattle.std.specs.declared.result.Result.the-variants.{Ok, Err}
-use Rattle.task.specs.declared.cause.Cause.{Cause}
+use Rattle.tables.specs.declared.cause.Cause.{Cause}
 use Rattle.plain.specs.Plain as plain
 
 -- accepted, the text's length; refused, the cause; and the buffer after it

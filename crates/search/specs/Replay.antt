@@ -6,7 +6,7 @@ use Prim.Native.Nat.{ℕ, _+_, _<_, _≤_}
 use lib.ListN.{length, getD, take, drop}
 use Rattle.std.specs.declared.result.Result.{Result}
 use Rattle.std.specs.declared.result.Result.the-variants.{Ok, Err}
-use Rattle.task.specs.declared.cause.Cause.{Cause}
+use Rattle.tables.specs.declared.cause.Cause.{Cause}
 use Rattle.plain.specs.declared.fault.Fault.the-variants.{Own}
 use Rattle.task.specs.Model.{Model}
 use Rattle.plain.specs.Plain as plain

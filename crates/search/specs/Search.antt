@@ -17,7 +17,7 @@ use Rattle.search.specs.declared.core.Status.{Status}
 use Rattle.search.specs.declared.core.Status.the-variants as statuses
 use Rattle.search.specs.declared.core.Event.{Event}
 use Rattle.search.specs.declared.core.Event.the-variants.{Expanded, Goal, Empty, Overflow}
-use Rattle.task.specs.declared.cause.Cause.the-variants as cause
+use Rattle.tables.specs.declared.cause.Cause.the-variants as cause
 use Rattle.plain.specs.declared.fault.Fault.{Fault}
 use Rattle.search.specs.declared.answer.Progress.{Progress}
 use Rattle.search.specs.declared.answer.Progress.the-variants as words

@@ -15,7 +15,7 @@ use crate::core::Core;
 use crate::core::Event;
 use crate::core::Status;
 use estimator::estimator::Estimator;
-use task::cause::Cause;
+use tables::cause::Cause;
 use task::task::Task;
 
 impl<'a> Core<'a> {

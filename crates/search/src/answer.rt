@@ -1,6 +1,6 @@
 // What the calls hand out.
 ghost use mathlib.Core.Path.{_≡_};
-use task::cause::Cause;
+use tables::cause::Cause;
 
 // The right to advance a running search. Only a start makes one, and an advance that ends the search uses it up.
 pub struct GoAhead {

@@ -22,7 +22,7 @@ use memory::memory::Memory;
 use memory::node::Node;
 use plain::fault::Fault;
 use queue::entries::SearchEntry;
-use task::cause::Cause;
+use tables::cause::Cause;
 use task::task::Task;
 
 impl<'a> Search<'a> {

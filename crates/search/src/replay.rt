@@ -22,7 +22,7 @@ use crate::data::Reply;
 use crate::search::Search;
 use estimator::estimator::Estimator;
 use plain::fault::Fault;
-use task::cause::Cause;
+use tables::cause::Cause;
 
 // The reply that a start's result makes.
 fn started(r: Result<GoAhead, Fault>) -> Reply

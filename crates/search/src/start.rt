@@ -14,7 +14,7 @@ use crate::core::Core;
 use crate::core::Status;
 use estimator::estimator::Estimator;
 use plain::fault::Fault;
-use task::cause::Cause;
+use tables::cause::Cause;
 use task::task::Task;
 
 impl<'a> Core<'a> {

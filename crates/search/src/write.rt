@@ -11,7 +11,7 @@ ghost use Rattle.search.specs.Plans.{Written};
 use crate::answer::Find;
 use crate::core::Core;
 use crate::core::Status;
-use task::cause::Cause;
+use tables::cause::Cause;
 use task::task::Task;
 use text::cost_back;
 use text::digit_count;

@@ -7,8 +7,8 @@ use denote.Ref.{RefT}
 use Rattle.std.specs.declared.option.Option.{Option}
 use Rattle.std.specs.declared.option.Option.the-variants.{Some, None}
 use Rattle.task.specs.declared.task.Task.{Task}
-use Rattle.task.specs.Records.{zeroVariable, zeroOperator, spanned}
-use Rattle.task.specs.Lines.{nthLine}
+use Rattle.tables.specs.Records.{zeroVariable, zeroOperator, spanned}
+use Rattle.tables.specs.Lines.{nthLine}
 
 abbrev pub variableName : Task → ℕ → List ℕ
 variableName t v = spanned (t .text .now) (getD (t .variables .now) v zeroVariable .name)

@@ -4,7 +4,7 @@ use mathlib.Core.Bool.{Bool, true, false}
 use mathlib.Core.List.{List, [], _∷_, _++_}
 use Prim.Native.Nat.{ℕ, _+_, _-_, _<_, _≤_, _^_, min}
 use lib.ListN.{length, getD, take}
-use Rattle.task.specs.Tells.{Tells}
+use Rattle.tables.specs.Tells.{Tells}
 use Rattle.task.specs.declared.walk.Walked.{Walked}
 use Rattle.task.specs.Model.{Model, prices, IsState, Applies, Leads, Cost, cost}
 use Rattle.task.specs.Answers.{IsGoalState}

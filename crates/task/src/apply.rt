@@ -2,12 +2,13 @@
 ghost use mathlib.Core.Path.{_≡_};
 ghost use Prim.Native.Nat.{ℕ, _<_, _≤_};
 ghost use lib.ListN.{length};
-ghost use Rattle.task.specs.Tells.{Tells};
+ghost use Rattle.tables.specs.Tells.{Tells};
 ghost use Rattle.task.specs.Model.{model, AllAdmit, updated, IsState};
-ghost use Rattle.task.specs.Answers.{EntriesInside, MovedRow, MovedState};
-use super::records::Entry;
+ghost use Rattle.task.specs.Answers.{MovedRow, MovedState};
+ghost use Rattle.tables.specs.Rules.{EntriesInside};
 use super::state::all_hold;
 use super::task::Task;
+use tables::records::Entry;
 
 // Whether each effect admits its variable's value in the row.
 fn all_admit(effects: &[Entry], row: &[u8]) -> bool

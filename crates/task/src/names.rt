@@ -2,10 +2,10 @@
 ghost use mathlib.Core.Path.{_≡_};
 ghost use Prim.Native.Nat.{ℕ, _<_, _≤_};
 ghost use lib.ListN.{length, getD};
-ghost use Rattle.task.specs.Tells.{Tells};
+ghost use Rattle.tables.specs.Tells.{Tells};
 ghost use Rattle.task.specs.Names.{operatorName, OperatorName, OperatorNamed, VariableName, ValueName};
-use super::line::nth_line;
 use super::task::Task;
+use tables::line::nth_line;
 
 impl<'a> Task<'a> {
     // The name of the variable of that number, if there is one.

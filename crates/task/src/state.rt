@@ -2,11 +2,12 @@
 ghost use mathlib.Core.Path.{_≡_};
 ghost use Prim.Native.Nat.{ℕ, _<_, _≤_};
 ghost use lib.ListN.{length, getD};
-ghost use Rattle.task.specs.Tells.{Tells};
+ghost use Rattle.tables.specs.Tells.{Tells};
 ghost use Rattle.task.specs.Model.{model, prices, IsState, AllHold, IsGoal};
-ghost use Rattle.task.specs.Answers.{IsGoalState, HasGoal, Filled, EntriesInside};
-use super::records::Entry;
+ghost use Rattle.task.specs.Answers.{IsGoalState, HasGoal, Filled};
+ghost use Rattle.tables.specs.Rules.{EntriesInside};
 use super::task::Task;
+use tables::records::Entry;
 
 // Whether each fact of the entries holds in the row.
 pub(crate) fn all_hold(entries: &[Entry], row: &[u8]) -> bool

@@ -1,11 +1,11 @@
 use super::sofa;
 use std::test::*;
-use task::cause::Cause;
-use task::records::Counts;
-use task::records::Entry;
-use task::records::Operator;
-use task::records::Span;
-use task::records::Variable;
+use tables::cause::Cause;
+use tables::records::Counts;
+use tables::records::Entry;
+use tables::records::Operator;
+use tables::records::Span;
+use tables::records::Variable;
 use task::task::Task;
 
 const COUNTS: Counts = Counts {

@@ -1,9 +1,9 @@
 // The worked example: a sofa to carry from the hall to the loft, by way of the den through a door, or by a hoist.
-use task::records::Counts;
-use task::records::Entry;
-use task::records::Operator;
-use task::records::Span;
-use task::records::Variable;
+use tables::records::Counts;
+use tables::records::Entry;
+use tables::records::Operator;
+use tables::records::Span;
+use tables::records::Variable;
 use task::task::Task;
 
 // The names: each variable's name and its values' lines, then the operators' names.

@@ -10,7 +10,7 @@ use lib.Dec.{eqb}
 use Rattle.std.proofs.shelf.Tests.{cases-eq, eq-eqb, ne-eqb, cond-true, cond-false}
 use Rattle.std.specs.declared.option.Option.{Option}
 use Rattle.std.specs.declared.option.Option.the-variants.{Some, None}
-use Rattle.task.specs.declared.records.Entry.{Entry}
+use Rattle.tables.specs.declared.records.Entry.{Entry}
 use Rattle.task.specs.Model.{Model, Action, Admits}
 use Rattle.abstraction.specs.declared.part.OperatorPart.{OperatorPart}
 use Rattle.abstraction.specs.Patterns.{Rises, IsPattern}

@@ -10,7 +10,7 @@ use Rattle.std.proofs.shelf.Lists.{getD-map}
 use Rattle.std.proofs.shelf.Tests.{cases-eq}
 use Rattle.std.specs.declared.option.Option.{Option}
 use Rattle.std.specs.declared.option.Option.the-variants.{Some, None}
-use Rattle.task.specs.declared.records.Entry.{Entry}
+use Rattle.tables.specs.declared.records.Entry.{Entry}
 use Rattle.task.specs.Model.{Model, Action, IsState, AllHold, Admits, AllAdmit, updated, idle, operator, IsGoal, Applies, applied, Plan, WellFormed}
 use Rattle.abstraction.specs.Patterns.{IsPattern, abstraction}
 use Rattle.abstraction.specs.Projected.{sizes, placeOf, keptAt, cutDown, cutAction, projected}

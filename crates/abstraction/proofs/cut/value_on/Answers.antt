@@ -4,7 +4,7 @@ use native.Mathlib.Omega.{arith}
 use lib.Dec.{eqb}
 use Rattle.std.proofs.shelf.Lists.{at-drop-more, at-drop-all}
 use Rattle.std.proofs.shelf.Tests.{eq-eqb, ne-eqb, cond-true, cond-false}
-use Rattle.task.specs.Records.{zeroEntry}
+use Rattle.tables.specs.Records.{zeroEntry}
 use Rattle.abstraction.specs.Parts.{valueOn}
 use Rattle.abstraction.proofs.cut.value_on.Needs as need
 

@@ -15,7 +15,7 @@ use Rattle.memory.specs.Steps.{kind, Meek}
 use Rattle.search.specs.Search.{plain-of, status-of}
 use Rattle.memory.proofs.Tables.{front-length}
 use Rattle.memory.proofs.Changes.{alike-same}
-use Rattle.task.specs.declared.cause.Cause.the-variants as cause
+use Rattle.tables.specs.declared.cause.Cause.the-variants as cause
 use Rattle.search.proofs.Writing.{not-fresh}
 use Rattle.search.proofs.Starting.{root-meek}
 use Rattle.memory.proofs.Trees.{root-tree}

@@ -8,7 +8,7 @@ use lib.ListN.{length, drop}
 use Rattle.std.proofs.shelf.Decimals.{length-decimal-le}
 use Rattle.task.specs.Model.{model}
 use Rattle.task.specs.Names.{operatorName}
-use Rattle.task.specs.declared.cause.Cause.the-variants as cause
+use Rattle.tables.specs.declared.cause.Cause.the-variants as cause
 use Rattle.plain.specs.Plain as plain
 use Rattle.plain.specs.Plain.{reports, Writes.other, Writes.short, Writes.writes}
 use Rattle.plain.proofs.Whole.{way-one}

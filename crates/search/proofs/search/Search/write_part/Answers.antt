@@ -6,7 +6,7 @@ use mathlib.Core.List.{List}
 use Prim.Native.Nat.{ℕ}
 use Rattle.std.specs.declared.result.Result.{Result}
 use Rattle.std.specs.declared.result.Result.the-variants.{Ok, Err}
-use Rattle.task.specs.declared.cause.Cause.{Cause}
+use Rattle.tables.specs.declared.cause.Cause.{Cause}
 use Rattle.plain.specs.Plain as plain
 use Rattle.memory.specs.Plans.{planText}
 use Rattle.search.specs.declared.data.Outcome.{Outcome}

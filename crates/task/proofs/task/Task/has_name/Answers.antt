@@ -1,7 +1,7 @@
 -- The two are compared byte by byte.
 use Rattle.std.proofs.shelf.Equals.{matches-decides}
 use Rattle.task.specs.Names.{operatorName}
-use Rattle.task.proofs.Decided.{decided}
+use Rattle.tables.proofs.Decided.{decided}
 use Rattle.task.proofs.task.Task.has_name.Needs as need
 
 pub returns : need.returns
