@@ -1,0 +1,11 @@
+pub mod Decimal
+pub mod Leaves
+pub mod Spaced
+pub mod Distinct
+pub mod Entries
+pub mod Variables
+pub mod Operators
+pub mod Whole
+pub mod WholeReads
+pub mod Stated
+pub mod Loads

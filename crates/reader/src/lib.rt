@@ -1,0 +1,2 @@
+// A task text turned into a task.
+pub mod load;
