@@ -1,9 +1,9 @@
-// From a task to its cheapest plan, with the program's estimator and memory.
+// From a task text to its cheapest plan, with the program's estimator and memory.
 ghost use mathlib.Core.Path.{_≡_};
 ghost use Rattle.task.specs.Model.{model};
 ghost use Rattle.memory.specs.Plans.{planText};
 ghost use Rattle.std.specs.Vec.{made};
-ghost use Rattle.planner.specs.Planning.{Planned};
+ghost use Rattle.planner.specs.Planning.{Planned, Answered};
 
 use super::patterns::pattern_length;
 use super::solve::Solution;
@@ -15,9 +15,14 @@ use projection::projection::Projection;
 use projection::projection::ProjectionEstimator;
 use queue::entries::RankEntry;
 use queue::entries::SearchEntry;
+use reader::load::load;
 use search::search::Search;
 use std::alloc::AllocError;
 use std::alloc::Global;
+use tables::fault::Fault;
+use tables::records::Entry;
+use tables::records::Operator;
+use tables::records::Variable;
 use task::task::Task;
 
 // The numbers of all variables that a task can have.
@@ -60,4 +65,27 @@ pub fn plan_task(heap: Global, task: Task<'_>, buffer: &mut [u8]) -> Result<Solu
     let mut row = vec![in heap; 0u32; task.operator_count()]?;
     let mut search = Search::open(task, &mut nodes, &mut states, &mut index, &mut open, &mut open_places);
     Ok(solve(&mut search, &mut row, &mut estimator, buffer))
+}
+
+// What planning a text comes to: the text's first fault, or what its task was solved to.
+#[derive(Clone, Copy)]
+pub enum Answer {
+    Unread(Fault),
+    Solved(Solution),
+}
+
+// Reads a task text, solves its task, and writes the plan into the buffer.
+pub fn plan(heap: Global, text: &[u8], buffer: &mut [u8]) -> Result<Answer, AllocError>
+    ensures { λ r. ⌜ made r (λ a. Answered (now (text .entry)) (now (buffer .entry)) a (now (buffer .exit))) ⌝ }
+{
+    let mut variables = vec![in heap; Variable::ZERO; 32]?;
+    let mut operators = vec![in heap; Operator::ZERO; 256]?;
+    let mut entries = vec![in heap; Entry::ZERO; 4096]?;
+    let mut task = Task::built_in();
+    let loaded = load(&mut task, text, &mut variables, &mut operators, &mut entries);
+    if let Err(fault) = loaded {
+        return Ok(Answer::Unread(fault));
+    }
+    let solution = plan_task(heap, task, buffer)?;
+    Ok(Answer::Solved(solution))
 }

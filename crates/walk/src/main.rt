@@ -1,10 +1,15 @@
-// Walks operators, named by the arguments, from the initial state of the worked example, and prints every state on the way.
-mod sofa;
-
+// Reads a task text from standard input, walks operators, named by the arguments, from its initial state, and prints every
+// state on the way.
+use console::read_text;
+use console::write_fault;
+use reader::load::load;
 use std::env;
 use std::error::AnyError;
 use std::io;
 use std::io::Write;
+use tables::records::Entry;
+use tables::records::Operator;
+use tables::records::Variable;
 use task::task::Task;
 
 // Writes the state's values by name.
@@ -75,14 +80,22 @@ fn write_walk<W: Write>(
 
 fn main(rt: LibcRuntime) -> Result<(), AnyError> {
     let heap = rt.alloc();
-    let task = sofa::task();
+    let text = read_text(&mut rt.stdin(), heap)?;
     let mut words = Vec::new(heap);
     for word in env::args(&rt)?.skip(1) {
         words.push(word)?;
     }
+    let mut variables = vec![in heap; Variable::ZERO; 32]?;
+    let mut operators = vec![in heap; Operator::ZERO; 256]?;
+    let mut entries = vec![in heap; Entry::ZERO; 4096]?;
+    let mut task = Task::built_in();
+    let mut out = rt.stdout();
+    if let Err(fault) = load(&mut task, &text, &mut variables, &mut operators, &mut entries) {
+        write_fault(&mut out, fault)?;
+        return Ok(());
+    }
     let mut row = vec![in heap; 0u8; task.variable_count()]?;
     task.initial_into(&mut row);
-    let mut out = rt.stdout();
     write_walk(&mut out, &task, words.as_slice(), &mut row)?;
     Ok(())
 }

@@ -1,6 +1,6 @@
 -- A refused reading is passed on.
 use Rattle.std.proofs.shelf.Results.{err-from-errBy}
-use Rattle.input.proofs.read_text.Needs as need
+use Rattle.console.proofs.read_text.Needs as need
 
 pub returns-in-Break-filled : need.returns-in-Break-filled
 returns-in-Break-filled g c =

@@ -1,4 +1,4 @@
-// Reading a program's input: one byte more than the longest text, so that a longer one is seen to be too long.
+// What the programs share: reading a text from standard input, and printing what is wrong with it.
 ghost use Prim.Native.Nat.{_≤_};
 ghost use lib.ListN.{length};
 ghost use Rattle.std.specs.Of.Vec.{vec-len};
@@ -6,8 +6,11 @@ ghost use Rattle.std.specs.Vec.{made};
 use std::alloc::Global;
 use std::io;
 use std::io::Read;
+use std::io::Write;
+use tables::cause::Cause;
+use tables::fault::Fault;
 
-// The most bytes that are read.
+// The most bytes that are read: one more than the longest text, so that a longer one is seen to be too long.
 const LIMIT: usize = 65537;
 
 // Reads into the buffer until it is full or the source ends; answers how many bytes it then holds.
@@ -36,4 +39,17 @@ pub fn read_text<R: Read>(source: &mut R, heap: Global) -> io::Result<Vec<u8>>
     let filled = fill(source, &mut bytes)?;
     bytes.truncate(filled);
     Ok(bytes)
+}
+
+// Writes a cause's name as a line.
+pub fn write_cause<W: Write>(out: &mut W, cause: Cause) -> io::Result<()> {
+    out.write_all(cause.name())?;
+    out.write_all(b"\n")
+}
+
+// Writes a fault of a text as a line, with the line of the text.
+pub fn write_fault<W: Write>(out: &mut W, fault: Fault) -> io::Result<()> {
+    let line = fault.line;
+    write!(out, "line {line}: ")?;
+    write_cause(out, fault.cause)
 }
