@@ -1,9 +1,7 @@
-// From a task text to its cheapest plan, with the program's estimator and memory.
+// From a task text to its cheapest plan, under a partition of two projections, with room for 2,048 states.
 ghost use mathlib.Core.Path.{_≡_};
-ghost use Rattle.task.specs.Model.{model};
-ghost use Rattle.memory.specs.Plans.{planText};
+ghost use lib.ListN.{length};
 ghost use Rattle.std.specs.Vec.{made};
-ghost use Rattle.planner.specs.Planning.{Planned, Answered};
 
 use super::patterns::pattern_length;
 use super::solve::Solution;
@@ -30,42 +28,13 @@ const VARIABLES: [u8; 32] = [
     0, 1, 2, 3, 4, 5, 6, 7, 8, 9, 10, 11, 12, 13, 14, 15, 16, 17, 18, 19, 20, 21, 22, 23, 24, 25, 26, 27, 28, 29, 30, 31,
 ];
 
-// How many states the search holds.
+// How many states the search holds, and how many ranks a projection has at most.
 const CAPACITY: usize = 2048;
-
-// How many ranks a projection has at most.
 const RANKS: usize = 4096;
 
 const NO_NODE: Node = Node { g: 0, parent: 0, operator: 0 };
-
 const NO_RANK: RankEntry = RankEntry { distance: 0, rank: 0 };
-
 const NO_ENTRY: SearchEntry = SearchEntry { f: 0, estimate: 0, node: 0 };
-
-// Solves the task by a search for 2,048 states under a partition of two projections, and writes its plan into the buffer.
-pub fn plan_task(heap: Global, task: Task<'_>, buffer: &mut [u8]) -> Result<Solution, AllocError>
-    ensures { λ r. ⌜ made r (λ s. Planned (model (task .entry)) (planText (task .entry)) (now (buffer .entry)) s (now (buffer .exit))) ⌝ }
-{
-    let first = pattern_length(&task, 0);
-    let second = pattern_length(&task, first);
-    let mut tables = vec![in heap; 0u32; RANKS]?;
-    let mut entries = vec![in heap; NO_RANK; RANKS]?;
-    let mut places = vec![in heap; 0u32; RANKS]?;
-    let mut more_tables = vec![in heap; 0u32; RANKS]?;
-    let mut more_entries = vec![in heap; NO_RANK; RANKS]?;
-    let mut more_places = vec![in heap; 0u32; RANKS]?;
-    let one = Projection::new(&VARIABLES[0..first], &mut tables, &mut entries, &mut places);
-    let two = Projection::new(&VARIABLES[first..first + second], &mut more_tables, &mut more_entries, &mut more_places);
-    let mut estimator = Partition::new(one, two);
-    let mut nodes = vec![in heap; NO_NODE; CAPACITY]?;
-    let mut states = vec![in heap; 0u8; CAPACITY * 32]?;
-    let mut index = vec![in heap; 0u32; CAPACITY * 2]?;
-    let mut open = vec![in heap; NO_ENTRY; CAPACITY]?;
-    let mut open_places = vec![in heap; 0u32; CAPACITY]?;
-    let mut row = vec![in heap; 0u32; task.operator_count()]?;
-    let mut search = Search::open(task, &mut nodes, &mut states, &mut index, &mut open, &mut open_places);
-    Ok(solve(&mut search, &mut row, &mut estimator, buffer))
-}
 
 // What planning a text comes to: the text's first fault, or what its task was solved to.
 #[derive(Clone, Copy)]
@@ -74,18 +43,37 @@ pub enum Answer {
     Solved(Solution),
 }
 
-// Reads a task text, solves its task, and writes the plan into the buffer.
+// Reads a task text, solves its task, and writes the plan into the buffer. The text is copied, so that all that the task
+// borrows has one lifetime.
 pub fn plan(heap: Global, text: &[u8], buffer: &mut [u8]) -> Result<Answer, AllocError>
-    ensures { λ r. ⌜ made r (λ a. Answered (now (text .entry)) (now (buffer .entry)) a (now (buffer .exit))) ⌝ }
 {
+    let copy = text.to_vec(heap)?;
     let mut variables = vec![in heap; Variable::ZERO; 32]?;
     let mut operators = vec![in heap; Operator::ZERO; 256]?;
     let mut entries = vec![in heap; Entry::ZERO; 4096]?;
+    let mut nodes = vec![in heap; NO_NODE; CAPACITY]?;
+    let mut states = vec![in heap; 0u8; CAPACITY * 32]?;
+    let mut index = vec![in heap; 0u32; CAPACITY * 2]?;
+    let mut waiting = vec![in heap; NO_ENTRY; CAPACITY]?;
+    let mut places = vec![in heap; 0u32; CAPACITY]?;
+    let mut prices = vec![in heap; 0u32; 256]?;
+    let mut table = vec![in heap; 0u32; RANKS]?;
+    let mut ranks = vec![in heap; NO_RANK; RANKS]?;
+    let mut rank_places = vec![in heap; 0u32; RANKS]?;
+    let mut more_table = vec![in heap; 0u32; RANKS]?;
+    let mut more_ranks = vec![in heap; NO_RANK; RANKS]?;
+    let mut more_places = vec![in heap; 0u32; RANKS]?;
     let mut task = Task::built_in();
-    let loaded = load(&mut task, text, &mut variables, &mut operators, &mut entries);
+    let loaded = load(&mut task, &copy, &mut variables, &mut operators, &mut entries);
     if let Err(fault) = loaded {
         return Ok(Answer::Unread(fault));
     }
-    let solution = plan_task(heap, task, buffer)?;
-    Ok(Answer::Solved(solution))
+    let one = pattern_length(&task, 0);
+    let two = one + pattern_length(&task, one);
+    let first = Projection::new(&VARIABLES[0..one], &mut table, &mut ranks, &mut rank_places);
+    let second = Projection::new(&VARIABLES[one..two], &mut more_table, &mut more_ranks, &mut more_places);
+    let mut estimator = Partition::new(first, second);
+    let count = task.operator_count();
+    let mut search = Search::open(task, &mut nodes, &mut states, &mut index, &mut waiting, &mut places);
+    Ok(Answer::Solved(solve(&mut search, &mut prices[0..count], &mut estimator, buffer)))
 }
