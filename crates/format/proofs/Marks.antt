@@ -10,7 +10,7 @@ use lib.ListN.{length, getD, set, replicate}
 use lib.Seq.{getD-set-same, getD-set-other}
 use Rattle.std.proofs.shelf.Ways.{tells}
 use Rattle.std.proofs.shelf.Tests.{eqb-true, eqb-false}
-use Rattle.task.specs.declared.records.Entry.{Entry}
+use Rattle.tables.specs.declared.records.Entry.{Entry}
 use Rattle.format.specs.Entries.{names}
 
 or-swap : (a b c : Bool) → (a || (b || c)) ≡ (b || (a || c))

@@ -6,10 +6,10 @@ use lib.Dec.{ltb}
 use lib.ListN.{length}
 use Rattle.std.specs.declared.option.Option.{Option}
 use Rattle.std.specs.declared.option.Option.the-variants.{Some, None}
-use Rattle.task.specs.declared.cause.Cause.the-variants as cause
-use Rattle.task.specs.declared.records.Variable.{Variable}
-use Rattle.task.specs.declared.records.Entry.{Entry}
-use Rattle.task.specs.declared.records.Operator.{Operator}
+use Rattle.tables.specs.declared.cause.Cause.the-variants as cause
+use Rattle.tables.specs.declared.records.Variable.{Variable}
+use Rattle.tables.specs.declared.records.Entry.{Entry}
+use Rattle.tables.specs.declared.records.Operator.{Operator}
 use Rattle.lines.specs.Reading.{Place, Step, read, andThen, tested, wordOf, nameOf, belowFrom, turns}
 use Rattle.format.specs.declared.entries.Shape.the-variants.{Fact, Effect}
 use Rattle.format.specs.Entries.{groupOf}

@@ -4,8 +4,8 @@ use Prim.Native.Nat.{ℕ}
 use lib.Chars.{codes}
 use lib.Dec.{ltb}
 use lib.ListN.{length}
-use Rattle.task.specs.declared.cause.Cause.the-variants as cause
-use Rattle.task.specs.declared.records.Variable.{Variable}
+use Rattle.tables.specs.declared.cause.Cause.the-variants as cause
+use Rattle.tables.specs.declared.records.Variable.{Variable}
 use Rattle.lines.specs.Reading.{Place, Step, read, andThen, tested, wordOf, numberFrom, belowFrom, nameOf, turns, passed}
 
 -- the lines of a variable after the first: its name, -1, how many values it has, their names, the last line

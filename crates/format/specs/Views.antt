@@ -6,12 +6,12 @@ use Prim.Native.Nat.{ℕ, _<_}
 use lib.ListN.{take, getD}
 use Rattle.std.specs.declared.result.Result.{Result}
 use Rattle.std.specs.declared.result.Result.the-variants.{Ok, Err}
-use Rattle.task.specs.declared.fault.Fault.{Fault}
-use Rattle.task.specs.declared.records.Variable.{Variable}
-use Rattle.task.specs.declared.records.Entry.{Entry}
-use Rattle.task.specs.declared.records.Operator.{Operator}
-use Rattle.task.specs.declared.records.Counts.{Counts}
-use Rattle.task.specs.Records.{endAt}
+use Rattle.tables.specs.declared.fault.Fault.{Fault}
+use Rattle.tables.specs.declared.records.Variable.{Variable}
+use Rattle.tables.specs.declared.records.Entry.{Entry}
+use Rattle.tables.specs.declared.records.Operator.{Operator}
+use Rattle.tables.specs.declared.records.Counts.{Counts}
+use Rattle.tables.specs.Records.{endAt}
 use Rattle.lines.specs.declared.cursor.Cursor.{Cursor}
 use Rattle.lines.specs.Reading.{Step, refused, read}
 use Rattle.lines.specs.Views.{placeOf}

@@ -9,13 +9,13 @@ use lib.ListN.{length, replicate}
 use Rattle.std.specs.declared.option.Option.the-variants.{None}
 use Rattle.std.specs.declared.result.Result.{Result}
 use Rattle.std.specs.declared.result.Result.the-variants.{Ok, Err}
-use Rattle.task.specs.declared.cause.Cause.the-variants as cause
-use Rattle.task.specs.declared.fault.Fault.{Fault}
-use Rattle.task.specs.declared.records.Variable.{Variable}
-use Rattle.task.specs.declared.records.Entry.{Entry}
-use Rattle.task.specs.declared.records.Operator.{Operator}
-use Rattle.task.specs.declared.records.Counts.{Counts}
-use Rattle.task.specs.Records.{zeroVariable, zeroOperator, zeroEntry}
+use Rattle.tables.specs.declared.cause.Cause.the-variants as cause
+use Rattle.tables.specs.declared.fault.Fault.{Fault}
+use Rattle.tables.specs.declared.records.Variable.{Variable}
+use Rattle.tables.specs.declared.records.Entry.{Entry}
+use Rattle.tables.specs.declared.records.Operator.{Operator}
+use Rattle.tables.specs.declared.records.Counts.{Counts}
+use Rattle.tables.specs.Records.{zeroVariable, zeroOperator, zeroEntry}
 use Rattle.lines.specs.Reading.{Place, Step, refused, read, andThen, faultNext, wordOf, numberFrom, belowFrom, top}
 use Rattle.format.specs.declared.entries.Shape.the-variants.{Fact}
 use Rattle.format.specs.Variables.{variablesOf, initialsOf}

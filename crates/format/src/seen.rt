@@ -1,4 +1,4 @@
-use task::records::Entry;
+use tables::records::Entry;
 ghost use Prim.Native.Nat.{_<_};
 ghost use mathlib.Core.Path.{_≡_};
 ghost use mathlib.Core.List.{List, [], _∷_, _++_};

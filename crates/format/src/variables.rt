@@ -1,8 +1,8 @@
 use lines::cursor::Cursor;
-use task::cause::Cause;
-use task::fault::Fault;
-use task::records::Span;
-use task::records::Variable;
+use tables::cause::Cause;
+use tables::fault::Fault;
+use tables::records::Span;
+use tables::records::Variable;
 ghost use Prim.Native.Nat.{ℕ, _+_, _-_, _≤_, _<_};
 ghost use lib.ListN.{length, take};
 ghost use mathlib.Core.List.{[]};

@@ -2,10 +2,10 @@
 use format::reading::read_task;
 use std::alloc::AllocError;
 use std::alloc::Global;
-use task::records::Counts;
-use task::records::Entry;
-use task::records::Operator;
-use task::records::Variable;
+use tables::records::Counts;
+use tables::records::Entry;
+use tables::records::Operator;
+use tables::records::Variable;
 ghost use Prim.Native.Nat.{_+_, _≤_};
 ghost use lib.ListN.{length};
 ghost use mathlib.Core.Path.{_≡_};

@@ -10,7 +10,7 @@ use Rattle.std.specs.declared.option.Option.the-variants.{Some, None}
 use Rattle.std.specs.shelf.Text.{sameBytes}
 use Rattle.lines.specs.declared.number.Number.{Number}
 use Rattle.lines.specs.declared.number.Number.the-variants.{MinusOne, Value, TooLong}
-use Rattle.task.specs.Lines.{cutAt}
+use Rattle.tables.specs.Lines.{cutAt}
 
 -- each byte is a decimal digit
 abbrev pub allDigits : List ℕ → Bool

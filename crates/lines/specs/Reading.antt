@@ -6,11 +6,11 @@ use lib.ListN.{length}
 use Rattle.std.specs.declared.option.Option.{Option}
 use Rattle.std.specs.declared.option.Option.the-variants.{Some, None}
 use Rattle.std.specs.shelf.Text.{sameBytes}
-use Rattle.task.specs.declared.cause.Cause.{Cause}
-use Rattle.task.specs.declared.cause.Cause.the-variants as cause
-use Rattle.task.specs.declared.fault.Fault.{Fault}
-use Rattle.task.specs.declared.records.Span.{Span}
-use Rattle.task.specs.Lines.{cutLine}
+use Rattle.tables.specs.declared.cause.Cause.{Cause}
+use Rattle.tables.specs.declared.cause.Cause.the-variants as cause
+use Rattle.tables.specs.declared.fault.Fault.{Fault}
+use Rattle.tables.specs.declared.records.Span.{Span}
+use Rattle.tables.specs.Lines.{cutLine}
 use Rattle.lines.specs.Printable.{printable}
 use Rattle.lines.specs.Numbers.{numberOf, withinOf, belowOf}
 

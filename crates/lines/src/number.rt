@@ -1,4 +1,4 @@
-use task::line::cut_at;
+use tables::line::cut_at;
 ghost use Prim.Native.Nat.{ℕ, _+_, _^_, _≤_, _<_};
 ghost use lib.ListN.{length};
 ghost use mathlib.Core.Bool.{true};

@@ -16,7 +16,7 @@ use Rattle.std.specs.Written.{decimal}
 use Rattle.std.specs.shelf.Text.{sameBytes}
 use Rattle.std.specs.declared.option.Option.{Option}
 use Rattle.std.specs.declared.option.Option.the-variants.{Some, None}
-use Rattle.task.specs.Lines.{cutAt}
+use Rattle.tables.specs.Lines.{cutAt}
 use Rattle.lines.specs.declared.number.Number.{Number}
 use Rattle.lines.specs.declared.number.Number.the-variants.{MinusOne, Value, TooLong}
 use Rattle.lines.specs.Printable.{printable}

@@ -11,9 +11,9 @@ use lib.ListN.{length, getD}
 use Rattle.std.proofs.shelf.Lists.{length-append, getD-append-left, getD-append-add}
 use Rattle.std.proofs.shelf.Tests.{eqb-false, ne-eqb, cases-lt}
 use Rattle.std.proofs.shelf.Ways.{tells}
-use Rattle.task.specs.declared.records.Entry.{Entry}
-use Rattle.task.specs.Records.{zeroEntry}
-use Rattle.task.specs.Rules.{Distinct}
+use Rattle.tables.specs.declared.records.Entry.{Entry}
+use Rattle.tables.specs.Records.{zeroEntry}
+use Rattle.tables.specs.Rules.{Distinct}
 use Rattle.format.specs.Entries.{names}
 
 pub names-none : (v : ℕ) (es : List Entry) → ((k : ℕ) → k < length es → getD es k zeroEntry .variable ≡ v → ⊥) → names v es ≡ false

@@ -15,11 +15,11 @@ use Rattle.std.specs.Written.{decimal}
 use Rattle.std.specs.shelf.Lists.{All}
 use Rattle.std.specs.declared.option.Option.{Option}
 use Rattle.std.specs.declared.option.Option.the-variants.{Some, None}
-use Rattle.task.specs.declared.cause.Cause.the-variants as cause
-use Rattle.task.specs.declared.records.Variable.{Variable}
-use Rattle.task.specs.declared.records.Entry.{Entry}
-use Rattle.task.specs.Records.{zeroVariable}
-use Rattle.task.specs.Rules.{Distinct}
+use Rattle.tables.specs.declared.cause.Cause.the-variants as cause
+use Rattle.tables.specs.declared.records.Variable.{Variable}
+use Rattle.tables.specs.declared.records.Entry.{Entry}
+use Rattle.tables.specs.Records.{zeroVariable}
+use Rattle.tables.specs.Rules.{Distinct}
 use Rattle.lines.specs.declared.number.Number.{Number}
 use Rattle.lines.specs.declared.number.Number.the-variants.{MinusOne, Value, TooLong}
 use Rattle.lines.specs.Printable.{printable}

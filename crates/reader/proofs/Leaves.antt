@@ -17,12 +17,12 @@ use Rattle.std.specs.shelf.Text.{sameBytes}
 use Rattle.std.specs.shelf.Lists.{All}
 use Rattle.std.specs.declared.option.Option.{Option}
 use Rattle.std.specs.declared.option.Option.the-variants.{Some, None}
-use Rattle.task.specs.declared.cause.Cause.{Cause}
-use Rattle.task.specs.declared.cause.Cause.the-variants as cause
-use Rattle.task.specs.declared.records.Span.{Span}
-use Rattle.task.specs.Lines.{cutAt, cutLine, before}
-use Rattle.task.specs.Records.{spanned}
-use Rattle.task.specs.Rules.{SpanFits}
+use Rattle.tables.specs.declared.cause.Cause.{Cause}
+use Rattle.tables.specs.declared.cause.Cause.the-variants as cause
+use Rattle.tables.specs.declared.records.Span.{Span}
+use Rattle.tables.specs.Lines.{cutAt, cutLine, before}
+use Rattle.tables.specs.Records.{spanned}
+use Rattle.tables.specs.Rules.{SpanFits}
 use Rattle.lines.specs.declared.number.Number.{Number}
 use Rattle.lines.specs.declared.number.Number.the-variants.{MinusOne, Value, TooLong}
 use Rattle.lines.specs.Printable.{printable}

@@ -12,16 +12,16 @@ use Rattle.std.specs.shelf.Lists.{joined}
 use Rattle.std.specs.declared.option.Option.the-variants.{None}
 use Rattle.std.specs.declared.result.Result.{Result}
 use Rattle.std.specs.declared.result.Result.the-variants.{Ok, Err}
-use Rattle.task.specs.declared.cause.Cause.the-variants as cause
-use Rattle.task.specs.declared.fault.Fault.{Fault}
-use Rattle.task.specs.declared.records.Counts.{Counts}
-use Rattle.task.specs.declared.records.Variable.{Variable}
-use Rattle.task.specs.declared.records.Operator.{Operator}
-use Rattle.task.specs.declared.records.Entry.{Entry}
+use Rattle.tables.specs.declared.cause.Cause.the-variants as cause
+use Rattle.tables.specs.declared.fault.Fault.{Fault}
+use Rattle.tables.specs.declared.records.Counts.{Counts}
+use Rattle.tables.specs.declared.records.Variable.{Variable}
+use Rattle.tables.specs.declared.records.Operator.{Operator}
+use Rattle.tables.specs.declared.records.Entry.{Entry}
 use Rattle.task.specs.declared.task.Task.{Task}
-use Rattle.task.specs.Records.{zeroVariable, zeroOperator, zeroEntry, spanned}
-use Rattle.task.specs.Rules.{Rules}
-use Rattle.task.specs.Lines.{nthLine}
+use Rattle.tables.specs.Records.{zeroVariable, zeroOperator, zeroEntry, spanned}
+use Rattle.tables.specs.Rules.{Rules}
+use Rattle.tables.specs.Lines.{nthLine}
 use Rattle.task.specs.Making.{Accepts, MadeOf, Put}
 use Rattle.lines.specs.Reading.{Place, Step, read, refused, top}
 use Rattle.format.specs.Whole.{Held, Room, wholeOf, roomOf, outcome, taskOf, countsOf, filled, TaskRead}

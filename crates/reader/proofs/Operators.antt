@@ -12,13 +12,13 @@ use Rattle.std.proofs.shelf.Tests.{ltb-true, lt-ltb}
 use Rattle.std.specs.Written.{decimal}
 use Rattle.std.specs.shelf.Lists.{All, joined}
 use Rattle.std.specs.declared.option.Option.the-variants.{Some, None}
-use Rattle.task.specs.declared.cause.Cause.the-variants as cause
-use Rattle.task.specs.declared.records.Span.{Span}
-use Rattle.task.specs.declared.records.Variable.{Variable}
-use Rattle.task.specs.declared.records.Operator.{Operator}
-use Rattle.task.specs.declared.records.Entry.{Entry}
-use Rattle.task.specs.Records.{spanned}
-use Rattle.task.specs.Rules.{SpanFits, Distinct}
+use Rattle.tables.specs.declared.cause.Cause.the-variants as cause
+use Rattle.tables.specs.declared.records.Span.{Span}
+use Rattle.tables.specs.declared.records.Variable.{Variable}
+use Rattle.tables.specs.declared.records.Operator.{Operator}
+use Rattle.tables.specs.declared.records.Entry.{Entry}
+use Rattle.tables.specs.Records.{spanned}
+use Rattle.tables.specs.Rules.{SpanFits, Distinct}
 use Rattle.task.specs.Model.{Action}
 use Rattle.lines.specs.Printable.{printable}
 use Rattle.lines.specs.Reading.{Place, Step, read, andThen, tested, wordOf, belowFrom, nameOf, turns}

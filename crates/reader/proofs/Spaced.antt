@@ -9,7 +9,7 @@ use Rattle.std.proofs.shelf.Ways.{tells}
 use Rattle.std.specs.Written.{decimal}
 use Rattle.std.specs.declared.option.Option.{Option}
 use Rattle.std.specs.declared.option.Option.the-variants.{Some, None}
-use Rattle.task.specs.Lines.{cutAt}
+use Rattle.tables.specs.Lines.{cutAt}
 use Rattle.lines.specs.declared.number.Number.{Number}
 use Rattle.lines.specs.declared.number.Number.the-variants.{MinusOne, Value, TooLong}
 use Rattle.lines.specs.Printable.{printable}

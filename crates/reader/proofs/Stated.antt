@@ -10,12 +10,12 @@ use Rattle.std.proofs.shelf.Elements.{all-getD, all-append, all-weaker}
 use Rattle.std.specs.shelf.Lists.{All, joined}
 use Rattle.std.specs.declared.option.Option.{Option}
 use Rattle.std.specs.declared.option.Option.the-variants.{Some, None}
-use Rattle.task.specs.declared.records.Variable.{Variable}
-use Rattle.task.specs.declared.records.Operator.{Operator}
-use Rattle.task.specs.declared.records.Entry.{Entry}
-use Rattle.task.specs.Lines.{cutLine, nthLine, firstLine, afterLine}
-use Rattle.task.specs.Records.{zeroVariable, zeroOperator, zeroEntry, part, spanned, endAt, effectsAt}
-use Rattle.task.specs.Rules.{SpanFits, VariablesFit, EntriesFit, RequiredFit, Distinct, OperatorsFit, OperatorsDistinct, Rules}
+use Rattle.tables.specs.declared.records.Variable.{Variable}
+use Rattle.tables.specs.declared.records.Operator.{Operator}
+use Rattle.tables.specs.declared.records.Entry.{Entry}
+use Rattle.tables.specs.Lines.{cutLine, nthLine, firstLine, afterLine}
+use Rattle.tables.specs.Records.{zeroVariable, zeroOperator, zeroEntry, part, spanned, endAt, effectsAt}
+use Rattle.tables.specs.Rules.{SpanFits, VariablesFit, EntriesFit, RequiredFit, Distinct, OperatorsFit, OperatorsDistinct, Rules}
 use Rattle.task.specs.Model.{Model, Action, action, stated}
 use Rattle.lines.specs.Printable.{printable}
 use Rattle.format.specs.Whole.{Held}

@@ -11,11 +11,11 @@ use Rattle.std.proofs.shelf.Lists.{append-assoc, append-nil, length-append}
 use Rattle.std.proofs.shelf.Tests.{ltb-true, lt-ltb}
 use Rattle.std.specs.Written.{decimal}
 use Rattle.std.specs.shelf.Lists.{All, joined}
-use Rattle.task.specs.declared.cause.Cause.the-variants as cause
-use Rattle.task.specs.declared.records.Span.{Span}
-use Rattle.task.specs.declared.records.Variable.{Variable}
-use Rattle.task.specs.Records.{spanned}
-use Rattle.task.specs.Rules.{SpanFits}
+use Rattle.tables.specs.declared.cause.Cause.the-variants as cause
+use Rattle.tables.specs.declared.records.Span.{Span}
+use Rattle.tables.specs.declared.records.Variable.{Variable}
+use Rattle.tables.specs.Records.{spanned}
+use Rattle.tables.specs.Rules.{SpanFits}
 use Rattle.lines.specs.Printable.{printable}
 use Rattle.lines.specs.Reading.{Place, Step, read, andThen, tested, wordOf, numberFrom, belowFrom, nameOf, turns, passed}
 use Rattle.format.specs.Variables.{variableOf, variableMore, withInitial, initialsOf}

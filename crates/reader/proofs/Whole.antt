@@ -12,11 +12,11 @@ use Rattle.std.proofs.shelf.Tests.{eqb-true}
 use Rattle.std.specs.Written.{decimal}
 use Rattle.std.specs.shelf.Lists.{All, joined}
 use Rattle.std.specs.declared.option.Option.the-variants.{Some, None}
-use Rattle.task.specs.declared.cause.Cause.the-variants as cause
-use Rattle.task.specs.declared.records.Variable.{Variable}
-use Rattle.task.specs.declared.records.Operator.{Operator}
-use Rattle.task.specs.declared.records.Entry.{Entry}
-use Rattle.task.specs.Rules.{Distinct}
+use Rattle.tables.specs.declared.cause.Cause.the-variants as cause
+use Rattle.tables.specs.declared.records.Variable.{Variable}
+use Rattle.tables.specs.declared.records.Operator.{Operator}
+use Rattle.tables.specs.declared.records.Entry.{Entry}
+use Rattle.tables.specs.Rules.{Distinct}
 use Rattle.lines.specs.Reading.{Place, Step, refused, read, andThen, faultNext, wordOf, numberFrom, belowFrom, turns, top}
 use Rattle.format.specs.declared.entries.Shape.the-variants.{Fact, Effect}
 use Rattle.format.specs.Variables.{variablesOf, initialsOf}

@@ -11,10 +11,10 @@ use Rattle.std.proofs.shelf.Elements.{all-weaker}
 use Rattle.std.specs.Written.{decimal}
 use Rattle.std.specs.shelf.Lists.{All, joined}
 use Rattle.std.specs.declared.option.Option.the-variants.{None}
-use Rattle.task.specs.declared.records.Variable.{Variable}
-use Rattle.task.specs.declared.records.Operator.{Operator}
-use Rattle.task.specs.declared.records.Entry.{Entry}
-use Rattle.task.specs.Rules.{Distinct}
+use Rattle.tables.specs.declared.records.Variable.{Variable}
+use Rattle.tables.specs.declared.records.Operator.{Operator}
+use Rattle.tables.specs.declared.records.Entry.{Entry}
+use Rattle.tables.specs.Rules.{Distinct}
 use Rattle.lines.specs.Reading.{Place, Step, read, andThen, wordOf, numberFrom, belowFrom, turns, top}
 use Rattle.format.specs.declared.entries.Shape.the-variants.{Fact}
 use Rattle.format.specs.Variables.{variablesOf, initialsOf}

@@ -5,7 +5,7 @@ use Prim.Native.Nat.{ℕ, _<_, _≤_}
 use lib.ListN.{length, getD}
 use Rattle.std.specs.declared.result.Result.{Result}
 use Rattle.std.specs.declared.result.Result.the-variants.{Ok, Err}
-use Rattle.task.specs.declared.fault.Fault.{Fault}
+use Rattle.tables.specs.declared.fault.Fault.{Fault}
 use Rattle.task.specs.declared.task.Task.{Task}
 use Rattle.task.specs.Model.{model}
 use Rattle.task.specs.Names.{variableName, valueName, operatorName}

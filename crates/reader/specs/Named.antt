@@ -7,8 +7,8 @@ use lib.ListN.{length, getD}
 use Rattle.std.specs.shelf.Lists.{All, joined}
 use Rattle.std.specs.declared.option.Option.{Option}
 use Rattle.std.specs.declared.option.Option.the-variants.{Some, None}
-use Rattle.task.specs.declared.records.Entry.{Entry}
-use Rattle.task.specs.Rules.{Distinct}
+use Rattle.tables.specs.declared.records.Entry.{Entry}
+use Rattle.tables.specs.Rules.{Distinct}
 use Rattle.task.specs.Model.{Model, Action}
 use Rattle.lines.specs.Printable.{printable}
 

@@ -1,8 +1,8 @@
 use format::reading::read_task;
-use task::fault::Fault;
-use task::records::Entry;
-use task::records::Operator;
-use task::records::Variable;
+use tables::fault::Fault;
+use tables::records::Entry;
+use tables::records::Operator;
+use tables::records::Variable;
 use task::task::Task;
 
 ghost use lib.ListN.{length};

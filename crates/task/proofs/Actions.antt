@@ -8,14 +8,14 @@ use native.Mathlib.Omega.{arith}
 use native.Mathlib.Decide.{ℕ-discrete}
 use lib.ListN.{length, getD, set, length-set, length-map}
 use lib.Seq.{getD-set-same, getD-set-other}
-use Rattle.task.specs.declared.records.Variable.{Variable}
-use Rattle.task.specs.declared.records.Operator.{Operator}
-use Rattle.task.specs.declared.records.Entry.{Entry}
+use Rattle.tables.specs.declared.records.Variable.{Variable}
+use Rattle.tables.specs.declared.records.Operator.{Operator}
+use Rattle.tables.specs.declared.records.Entry.{Entry}
 use Rattle.task.specs.declared.task.Task.{Task}
-use Rattle.task.specs.Records.{zeroVariable, zeroOperator, zeroEntry, part, effectsAt, endAt}
-use Rattle.task.specs.Rules.{EntriesFit, OperatorsFit}
+use Rattle.tables.specs.Records.{zeroVariable, zeroOperator, zeroEntry, part, effectsAt, endAt}
+use Rattle.tables.specs.Rules.{EntriesFit, OperatorsFit}
 use Rattle.task.specs.Model.{Model, Action, model, prices, action, idle, operator, AllHold, Admits, AllAdmit, updated, IsState, Applies, applied, WellFormed, dearest}
-use Rattle.task.proofs.Lists.{domain-at, initial-at, part-at}
+use Rattle.tables.proofs.Lists.{domain-at, initial-at, part-at}
 
 pub hold-from : (s : List ℕ) (es : List Entry) → ((k : ℕ) → k < length es → getD s (getD es k zeroEntry .variable) 0 ≡ getD es k zeroEntry .value) → AllHold s es
 hold-from s [] h = tt

@@ -5,8 +5,9 @@ use mathlib.Core.List.{List}
 use Prim.Native.Nat.{ℕ, _<_}
 use lib.ListN.{length, getD}
 use Rattle.std.specs.Orderings.{When}
-use Rattle.task.specs.declared.records.Entry.{Entry}
-use Rattle.task.specs.Records.{zeroEntry}
+use Rattle.tables.specs.Tells.{Tells}
+use Rattle.tables.specs.declared.records.Entry.{Entry}
+use Rattle.tables.specs.Records.{zeroEntry}
 use Rattle.task.specs.Model.{Model, IsState, IsGoal, Applies, applied}
 
 -- a row of the length of xs now holds xs; any other row is refused and stays
@@ -20,17 +21,9 @@ IsGoalState T s = IsState T s × IsGoal T s
 
 -- the row has one byte a variable, and every goal fact holds in it
 abbrev pub HasGoal : Bool → Model → List ℕ → Type 0
-HasGoal r T s = When r ((length s ≡ length (T .domains)) × IsGoal T s) ((length s ≡ length (T .domains)) × IsGoal T s → ⊥)
+HasGoal r T s = Tells r ((length s ≡ length (T .domains)) × IsGoal T s)
 
--- every entry's variable is below n
-abbrev pub EntriesInside : List Entry → ℕ → Type 0
-EntriesInside es n = (k : ℕ) → k < length es → getD es k zeroEntry .variable < n
-
--- operator i applies to the row, which became what it leads to; or it does not apply, and the row stays
-abbrev pub Moved : Bool → Model → List ℕ → ℕ → List ℕ → Type 0
-Moved r T s i after = When r (Applies T s i × (after ≡ applied T s i)) ((Applies T s i → ⊥) × (after ≡ s))
-
--- the same, where only a row of one byte a variable is moved
+-- a row of one byte a variable became what operator i leads to; or the operator does not apply, and the row stays
 abbrev pub MovedRow : Bool → Model → List ℕ → ℕ → List ℕ → Type 0
 MovedRow r T s i after = When r ((length s ≡ length (T .domains)) × Applies T s i × (after ≡ applied T s i)) (((length s ≡ length (T .domains)) × Applies T s i → ⊥) × (after ≡ s))
 

@@ -6,14 +6,14 @@ use lib.ListN.{length, take}
 use Rattle.std.specs.declared.option.Option.the-variants.{None}
 use Rattle.std.specs.declared.result.Result.{Result}
 use Rattle.std.specs.declared.result.Result.the-variants.{Ok, Err}
-use Rattle.task.specs.declared.cause.Cause.the-variants as cause
-use Rattle.task.specs.declared.fault.Fault.{Fault}
-use Rattle.task.specs.declared.records.Counts.{Counts}
-use Rattle.task.specs.declared.records.Variable.{Variable}
-use Rattle.task.specs.declared.records.Operator.{Operator}
-use Rattle.task.specs.declared.records.Entry.{Entry}
+use Rattle.tables.specs.declared.cause.Cause.the-variants as cause
+use Rattle.tables.specs.declared.fault.Fault.{Fault}
+use Rattle.tables.specs.declared.records.Counts.{Counts}
+use Rattle.tables.specs.declared.records.Variable.{Variable}
+use Rattle.tables.specs.declared.records.Operator.{Operator}
+use Rattle.tables.specs.declared.records.Entry.{Entry}
 use Rattle.task.specs.declared.task.Task.{Task}
-use Rattle.task.specs.Rules.{Rules}
+use Rattle.tables.specs.Rules.{Rules}
 use Rattle.task.specs.Model.{Model, model, stated}
 
 -- the built-in task: one variable of one value, an empty goal and no operators

@@ -5,11 +5,11 @@ use Prim.Native.Nat.{ℕ, _+_, _<_, _≤_, max}
 use lib.ListN.{length, getD, set}
 use Rattle.std.specs.declared.option.Option.{Option}
 use Rattle.std.specs.declared.option.Option.the-variants.{Some, None}
-use Rattle.task.specs.declared.records.Variable.{Variable}
-use Rattle.task.specs.declared.records.Operator.{Operator}
-use Rattle.task.specs.declared.records.Entry.{Entry}
+use Rattle.tables.specs.declared.records.Variable.{Variable}
+use Rattle.tables.specs.declared.records.Operator.{Operator}
+use Rattle.tables.specs.declared.records.Entry.{Entry}
 use Rattle.task.specs.declared.task.Task.{Task}
-use Rattle.task.specs.Records.{part, effectsAt, endAt}
+use Rattle.tables.specs.Records.{part, effectsAt, endAt}
 
 -- what an operator asks of a state, what it changes, and its price
 pub record Action : Type 0 where

@@ -7,8 +7,8 @@ use denote.Ref.{RefT}
 use Rattle.std.specs.declared.option.Option.{Option}
 use Rattle.std.specs.declared.option.Option.the-variants.{Some, None}
 use Rattle.task.specs.declared.task.Task.{Task}
-use Rattle.task.specs.Records.{zeroVariable, zeroOperator, spanned}
-use Rattle.task.specs.Lines.{nthLine}
+use Rattle.tables.specs.Records.{zeroVariable, zeroOperator, spanned}
+use Rattle.tables.specs.Lines.{nthLine}
 
 abbrev pub variableName : Task → ℕ → List ℕ
 variableName t v = spanned (t .text .now) (getD (t .variables .now) v zeroVariable .name)
@@ -33,3 +33,8 @@ OperatorName t i (Some s) = (i < length (t .operators .now)) × (s .now ≡ oper
 abbrev pub ValueName : Task → ℕ → ℕ → Option (RefT (List ℕ)) → Type 0
 ValueName t v x None = x < getD (t .variables .now) v zeroVariable .domain → ⊥
 ValueName t v x (Some s) = (x < getD (t .variables .now) v zeroVariable .domain) × (s .now ≡ valueName t v x)
+
+-- the first operator of that name; none where no operator has it
+abbrev pub OperatorNamed : Task → List ℕ → Option ℕ → Type 0
+OperatorNamed t name None = (k : ℕ) → k < length (t .operators .now) → operatorName t k ≡ name → ⊥
+OperatorNamed t name (Some i) = (i < length (t .operators .now)) × (operatorName t i ≡ name) × ((k : ℕ) → k < i → operatorName t k ≡ name → ⊥)

@@ -4,7 +4,7 @@ use mathlib.Core.Bool.{Bool, true, false}
 use mathlib.Core.List.{List, [], _∷_, _++_}
 use Prim.Native.Nat.{ℕ, _+_, _-_, _<_, _≤_, _^_, min}
 use lib.ListN.{length, getD, take}
-use Rattle.std.specs.Orderings.{When}
+use Rattle.tables.specs.Tells.{Tells}
 use Rattle.task.specs.declared.walk.Walked.{Walked}
 use Rattle.task.specs.Model.{Model, prices, IsState, Applies, Leads, Cost, cost}
 use Rattle.task.specs.Answers.{IsGoalState}
@@ -22,7 +22,7 @@ pub record Took (T : Model) (s p : List ℕ) (steps total : ℕ) (u : List ℕ) 
 -- what a walk from s along p answers where it ended in u
 pub record Walk (T : Model) (s p : List ℕ) (w : Walked) (u : List ℕ) : Type 0 where
   pub took : Took T s p (w .steps) (w .cost) u
-  pub goal : When (w .goal) (IsGoalState T u) (IsGoalState T u → ⊥)
+  pub goal : Tells (w .goal) (IsGoalState T u)
 
 -- a joined list costs what its parts cost together, at any price row
 abbrev pub CostsJoin : Type 0

@@ -2,17 +2,18 @@
 ghost use mathlib.Core.Path.{_≡_};
 ghost use Prim.Native.Nat.{ℕ, _<_, _≤_};
 ghost use lib.ListN.{length};
-ghost use Rattle.std.specs.Orderings.{When};
+ghost use Rattle.tables.specs.Tells.{Tells};
 ghost use Rattle.task.specs.Model.{model, AllAdmit, updated, IsState};
-ghost use Rattle.task.specs.Answers.{EntriesInside, MovedRow, MovedState};
-use super::records::Entry;
+ghost use Rattle.task.specs.Answers.{MovedRow, MovedState};
+ghost use Rattle.tables.specs.Rules.{EntriesInside};
 use super::state::all_hold;
 use super::task::Task;
+use tables::records::Entry;
 
 // Whether each effect admits its variable's value in the row.
 fn all_admit(effects: &[Entry], row: &[u8]) -> bool
     requires { ⌜ EntriesInside (now effects) (length (now row)) ⌝ }
-    ensures { λ r. ⌜ When r (AllAdmit (now (row .entry)) (now (effects .entry))) (AllAdmit (now (row .entry)) (now (effects .entry)) → ⊥) ⌝ }
+    ensures { λ r. ⌜ Tells r (AllAdmit (now (row .entry)) (now (effects .entry))) ⌝ }
 {
     for effect in effects {
         if let Some(required) = effect.required {

@@ -4,18 +4,18 @@ ghost use mathlib.Core.List.{[], _∷_};
 ghost use Prim.Native.Nat.{ℕ, _<_, _≤_};
 ghost use lib.ListN.{length, take};
 ghost use Rattle.task.specs.Model.{model, stated};
-ghost use Rattle.task.specs.Records.{zeroSpan};
-ghost use Rattle.task.specs.Rules.{Rules};
+ghost use Rattle.tables.specs.Records.{zeroSpan};
+ghost use Rattle.tables.specs.Rules.{Rules};
 ghost use Rattle.task.specs.Making.{Put, single, MadeOf};
-use super::cause::Cause;
-use super::fault::Fault;
-use super::records::Counts;
-use super::records::Entry;
-use super::records::Operator;
-use super::records::Span;
-use super::records::Variable;
-use super::rules::keeps_rules;
 use super::task::Task;
+use tables::cause::Cause;
+use tables::fault::Fault;
+use tables::records::Counts;
+use tables::records::Entry;
+use tables::records::Operator;
+use tables::records::Span;
+use tables::records::Variable;
+use tables::rules::keeps_rules;
 
 // One variable of one value.
 const SINGLE: [Variable; 1] = [Variable {

@@ -2,9 +2,10 @@
 ghost use mathlib.Core.Path.{_≡_};
 ghost use Prim.Native.Nat.{ℕ, _<_, _≤_};
 ghost use lib.ListN.{length, getD};
-ghost use Rattle.task.specs.Names.{OperatorName, VariableName, ValueName};
-use super::line::nth_line;
+ghost use Rattle.tables.specs.Tells.{Tells};
+ghost use Rattle.task.specs.Names.{operatorName, OperatorName, OperatorNamed, VariableName, ValueName};
 use super::task::Task;
+use tables::line::nth_line;
 
 impl<'a> Task<'a> {
     // The name of the variable of that number, if there is one.
@@ -50,5 +51,30 @@ impl<'a> Task<'a> {
         let to = span.to;
         let text = self.text;
         Some(&text[from..to])
+    }
+
+    // The first operator of that name, if any.
+    pub fn operator_named(&self, name: &[u8]) -> Option<usize>
+        ensures { λ r. ⌜ OperatorNamed (now (self .entry)) (now (name .entry)) r ⌝ }
+    {
+        for operator in 0..self.operators.len() {
+            if self.has_name(operator, name) {
+                return Some(operator);
+            }
+        }
+        None
+    }
+
+    // Whether the operator of that number has that name.
+    fn has_name(&self, operator: usize, name: &[u8]) -> bool
+        requires { ⌜ operator < length (now (now self .operators)) ⌝ }
+        ensures { λ r. ⌜ Tells r (operatorName (now (self .entry)) operator ≡ now (name .entry)) ⌝ }
+    {
+        let span = self.operators[operator].name;
+        let from = span.from;
+        let to = span.to;
+        let text = self.text;
+        let own = &text[from..to];
+        own == name
     }
 }

@@ -2,16 +2,17 @@
 ghost use mathlib.Core.Path.{_≡_};
 ghost use Prim.Native.Nat.{ℕ, _<_, _≤_};
 ghost use lib.ListN.{length, getD};
-ghost use Rattle.std.specs.Orderings.{When};
+ghost use Rattle.tables.specs.Tells.{Tells};
 ghost use Rattle.task.specs.Model.{model, prices, IsState, AllHold, IsGoal};
-ghost use Rattle.task.specs.Answers.{IsGoalState, HasGoal, Filled, EntriesInside};
-use super::records::Entry;
+ghost use Rattle.task.specs.Answers.{IsGoalState, HasGoal, Filled};
+ghost use Rattle.tables.specs.Rules.{EntriesInside};
 use super::task::Task;
+use tables::records::Entry;
 
 // Whether each fact of the entries holds in the row.
-pub fn all_hold(entries: &[Entry], row: &[u8]) -> bool
+pub(crate) fn all_hold(entries: &[Entry], row: &[u8]) -> bool
     requires { ⌜ EntriesInside (now entries) (length (now row)) ⌝ }
-    ensures { λ r. ⌜ When r (AllHold (now (row .entry)) (now (entries .entry))) (AllHold (now (row .entry)) (now (entries .entry)) → ⊥) ⌝ }
+    ensures { λ r. ⌜ Tells r (AllHold (now (row .entry)) (now (entries .entry))) ⌝ }
 {
     for entry in entries {
         if row[entry.variable as usize] != entry.value {
@@ -85,7 +86,7 @@ impl<'a> Task<'a> {
 
     // Whether the row is a state: one value for each variable.
     pub fn is_state(&self, row: &[u8]) -> bool
-        ensures { λ r. ⌜ When r (IsState (model (now (self .entry))) (now (row .entry))) (IsState (model (now (self .entry))) (now (row .entry)) → ⊥) ⌝ }
+        ensures { λ r. ⌜ Tells r (IsState (model (now (self .entry))) (now (row .entry))) ⌝ }
     {
         if row.len() != self.variables.len() {
             return false;
@@ -111,7 +112,7 @@ impl<'a> Task<'a> {
 
     // Whether the row is a goal state.
     pub fn is_goal_state(&self, row: &[u8]) -> bool
-        ensures { λ r. ⌜ When r (IsGoalState (model (now (self .entry))) (now (row .entry))) (IsGoalState (model (now (self .entry))) (now (row .entry)) → ⊥) ⌝ }
+        ensures { λ r. ⌜ Tells r (IsGoalState (model (now (self .entry))) (now (row .entry))) ⌝ }
     {
         if !self.is_state(row) {
             return false;

@@ -1,9 +1,9 @@
 ghost use Prim.Native.Nat.{ℕ, _<_, _≤_};
 ghost use lib.ListN.{length};
-ghost use Rattle.task.specs.Rules.{VariablesFit, EntriesFit, RequiredFit, Distinct, OperatorsFit, OperatorsDistinct};
-use super::records::Entry;
-use super::records::Operator;
-use super::records::Variable;
+ghost use Rattle.tables.specs.Rules.{VariablesFit, EntriesFit, RequiredFit, Distinct, OperatorsFit, OperatorsDistinct};
+use tables::records::Entry;
+use tables::records::Operator;
+use tables::records::Variable;
 
 // A planning task over lent text and records, only read. Its rules are ghost fields, so every task that exists keeps them.
 #[derive(Clone, Copy)]

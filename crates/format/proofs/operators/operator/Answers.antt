@@ -6,7 +6,7 @@ use Prim.Native.Nat.{ℕ, _+_, _-_, _<_, _≤_}
 use lib.ListN.{length, take, drop}
 use Rattle.std.proofs.shelf.Results.{err-from-errBy}
 use Rattle.std.proofs.shelf.Lists.{length-take-le, drop-all}
-use Rattle.task.specs.declared.records.Entry.{Entry}
+use Rattle.tables.specs.declared.records.Entry.{Entry}
 use Rattle.format.specs.declared.seen.Seen.{Seen}
 use Rattle.format.specs.Views.{Marked}
 use Rattle.format.proofs.operators.operator.Needs as need

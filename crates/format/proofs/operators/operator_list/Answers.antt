@@ -9,8 +9,8 @@ use lib.ListN.{length, take}
 use Rattle.std.proofs.shelf.Results.{err-from-errBy}
 use Rattle.std.proofs.shelf.Tests.{lt-ltb, le-ltb}
 use Rattle.std.proofs.shelf.Lists.{take-more-set, length-take-le}
-use Rattle.task.specs.declared.records.Entry.{Entry}
-use Rattle.task.specs.declared.records.Operator.{Operator}
+use Rattle.tables.specs.declared.records.Entry.{Entry}
+use Rattle.tables.specs.declared.records.Operator.{Operator}
 use Rattle.lines.specs.Reading.{turns, refused, read}
 use Rattle.format.specs.Operators.{operatorMore, operatorsOf}
 use Rattle.lines.specs.Views.{placeOf}

@@ -12,12 +12,12 @@ use Rattle.std.proofs.shelf.Lists.{take-at, length-append}
 use Rattle.std.specs.Vec.{made}
 use Rattle.std.specs.declared.result.Result.{Result}
 use Rattle.std.specs.declared.result.Result.the-variants.{Ok, Err}
-use Rattle.task.specs.declared.fault.Fault.{Fault}
+use Rattle.tables.specs.declared.fault.Fault.{Fault}
 use Rattle.lines.specs.declared.cursor.Cursor.{Cursor}
-use Rattle.task.specs.declared.records.Variable.{Variable}
-use Rattle.task.specs.declared.records.Entry.{Entry}
-use Rattle.task.specs.declared.records.Operator.{Operator}
-use Rattle.task.specs.declared.records.Counts.{Counts}
+use Rattle.tables.specs.declared.records.Variable.{Variable}
+use Rattle.tables.specs.declared.records.Entry.{Entry}
+use Rattle.tables.specs.declared.records.Operator.{Operator}
+use Rattle.tables.specs.declared.records.Counts.{Counts}
 use Rattle.format.specs.Views.{answeredBody, answeredWhole}
 use Rattle.format.proofs.reading.read_whole.Needs as need
 

@@ -5,7 +5,7 @@ use Prim.Native.Nat.{_+_}
 use lib.ListN.{length, take, drop, getD, set}
 use Rattle.std.proofs.shelf.Results.{err-from-errBy}
 use Rattle.std.proofs.shelf.Lists.{take-more-set, drop-set-lt, at-drop-more, at-drop-all, take-all}
-use Rattle.task.specs.Records.{zeroVariable}
+use Rattle.tables.specs.Records.{zeroVariable}
 use Rattle.format.specs.Variables.{initialsOf, withInitial}
 use Rattle.lines.specs.Views.{placeOf}
 use Rattle.format.proofs.variables.initial_values.Needs as need

@@ -1,7 +1,7 @@
 -- The effects before the index admit their variables' values.
 use Prim.Native.Nat.{ℕ, _<_}
 use lib.ListN.{getD}
-use Rattle.task.specs.Records.{zeroEntry}
+use Rattle.tables.specs.Records.{zeroEntry}
 use Rattle.task.specs.Model.{Admits}
 use Rattle.task.proofs.apply.all_admit.Given as given
 

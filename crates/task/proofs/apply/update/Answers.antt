@@ -5,7 +5,7 @@ use mathlib.Core.Path.{_≡_, sym, ap, _∙_}
 use Prim.Native.Nat.{_<_, _≤_}
 use lib.ListN.{length, drop, drop-of-length-le}
 use lib.Seq.{drop-cons}
-use Rattle.task.specs.Records.{zeroEntry}
+use Rattle.tables.specs.Records.{zeroEntry}
 use Rattle.task.specs.Model.{updated}
 use Rattle.task.proofs.apply.update.Needs as need
 

@@ -2,7 +2,7 @@
 use mathlib.Core.Path.{_≡_}
 use Prim.Native.Nat.{ℕ, _<_}
 use lib.ListN.{getD}
-use Rattle.task.specs.Records.{zeroEntry}
+use Rattle.tables.specs.Records.{zeroEntry}
 use Rattle.task.proofs.state.all_hold.Given as given
 
 abbrev pub Inv-loop-entry : given.InvT-loop-entry

@@ -3,9 +3,9 @@ use native.Mathlib.Omega.{arith}
 use mathlib.Core.Path.{_≡_, refl, sym, ap, _∙_}
 use Prim.Native.Nat.{_<_, _≤_}
 use lib.ListN.{length, getD, length-map}
-use Rattle.task.specs.Records.{zeroOperator, effectsAt, endAt}
+use Rattle.tables.specs.Records.{zeroOperator, effectsAt, endAt}
 use Rattle.task.specs.Model.{action, Applies, applied}
-use Rattle.task.proofs.Lists.{part-inside}
+use Rattle.tables.proofs.Lists.{part-inside}
 use Rattle.task.proofs.Actions.{action-at}
 use Rattle.task.proofs.task.Task.apply_to_row.Needs as need
 

@@ -5,8 +5,8 @@ use Prim.Native.Nat.{ℕ, zero, suc}
 use native.Mathlib.Nat.{not-suc-le-zero, le-of-suc-le-suc}
 use native.Mathlib.Omega.{arith}
 use lib.Dec.{lit≤, lit<}
-use Rattle.task.specs.Records.{zeroSpan}
-use Rattle.task.specs.Rules.{VariablesFit}
+use Rattle.tables.specs.Records.{zeroSpan}
+use Rattle.tables.specs.Rules.{VariablesFit}
 use Rattle.task.proofs.task.Task.built_in.Needs as need
 
 only-fits : VariablesFit 0 (record { name = zeroSpan; values = zeroSpan; domain = 1; initial = 0 } ∷ [])

@@ -4,7 +4,7 @@ use mathlib.Core.List.{map}
 use native.Mathlib.Omega.{arith}
 use lib.ListN.{length-map}
 use Rattle.std.proofs.shelf.Lists.{getD-past}
-use Rattle.task.proofs.Lists.{domain-at}
+use Rattle.tables.proofs.Lists.{domain-at}
 use Rattle.task.proofs.task.Task.domain.Needs as need
 
 pub returns-then-variable-self : need.returns-then-variable-self

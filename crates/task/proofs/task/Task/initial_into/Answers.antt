@@ -2,7 +2,7 @@
 use native.Mathlib.Omega.{arith}
 use mathlib.Core.Path.{_≡_, sym, refl, _∙_}
 use lib.ListN.{length-map}
-use Rattle.task.proofs.Lists.{same-list, initial-at}
+use Rattle.tables.proofs.Lists.{same-list, initial-at}
 use Rattle.task.proofs.task.Task.initial_into.Needs as need
 
 pub returns-then-row-self : need.returns-then-row-self

@@ -2,7 +2,7 @@
 use mathlib.Core.Path.{_≡_}
 use Prim.Native.Nat.{ℕ, _<_}
 use lib.ListN.{getD}
-use Rattle.task.specs.Records.{zeroVariable}
+use Rattle.tables.specs.Records.{zeroVariable}
 use Rattle.task.proofs.task.Task.initial_into.Given as given
 
 abbrev pub Inv-loop-variable : given.InvT-loop-variable

@@ -4,7 +4,7 @@ use Prim.Native.Nat.{ℕ, _+_, _<_, _≤_}
 use native.Mathlib.Omega.{arith}
 use lib.ListN.{length, getD, length-map}
 use borrow.Author.Count.{below-more}
-use Rattle.task.proofs.Lists.{domain-at}
+use Rattle.tables.proofs.Lists.{domain-at}
 use Rattle.task.proofs.task.Task.is_state.Needs as need
 
 pub returns-then-row-self : need.returns-then-row-self

@@ -1,7 +1,7 @@
 -- The row is as long as the price row, and agrees with it at every place.
 use native.Mathlib.Omega.{arith}
 use mathlib.Core.Path.{_≡_, sym, refl, _∙_}
-use Rattle.task.proofs.Lists.{same-list}
+use Rattle.tables.proofs.Lists.{same-list}
 use Rattle.task.proofs.Actions.{price-at, prices-length}
 use Rattle.task.proofs.task.Task.prices_into.Needs as need
 

@@ -2,7 +2,7 @@
 use mathlib.Core.Path.{_≡_}
 use Prim.Native.Nat.{ℕ, _<_}
 use lib.ListN.{getD}
-use Rattle.task.specs.Records.{zeroOperator}
+use Rattle.tables.specs.Records.{zeroOperator}
 use Rattle.task.proofs.task.Task.prices_into.Given as given
 
 abbrev pub Inv-loop-operator : given.InvT-loop-operator

@@ -1,7 +1,7 @@
 -- A variable past the last has no values.
 use native.Mathlib.Omega.{arith}
 use Rattle.std.proofs.shelf.Lists.{getD-past}
-use Rattle.task.specs.Records.{zeroVariable}
+use Rattle.tables.specs.Records.{zeroVariable}
 use Rattle.task.proofs.task.Task.value_name.Needs as need
 
 pub returns-then-variable-self : need.returns-then-variable-self

@@ -1,0 +1,5 @@
+pub mod Price
+pub mod Laws
+pub mod Blind
+pub mod Bound
+pub mod lawful

@@ -1,0 +1,4 @@
+-- What the laws of the layers are proved by.
+pub mod Rows
+pub mod Maximum
+pub mod Partition

@@ -1,0 +1,2 @@
+-- What the leaf's laws are proved by.
+pub mod Leaf

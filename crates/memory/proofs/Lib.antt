@@ -1,0 +1,10 @@
+pub mod Tables
+pub mod Words
+pub mod Held
+pub mod Changes
+pub mod Tried
+pub mod Capacities
+pub mod Starting
+pub mod Props
+pub mod Trees
+pub mod Lining

@@ -1,0 +1,8 @@
+-- The fingerprint of the bytes read so far, from the last one back.
+use mathlib.Core.Path.{_≡_}
+use lib.ListN.{drop}
+use Rattle.memory.specs.Index.{fingerprint}
+use Rattle.memory.proofs.index.fingerprint_of.Given as given
+
+abbrev pub Inv-loop-i : given.InvT-loop-i
+Inv-loop-i l = l .h ≡ fingerprint (drop (l .i) (l .state))

@@ -1,0 +1,7 @@
+pub mod Answering
+pub mod Distances
+pub mod Lowering
+pub mod Relaxing
+pub mod Running
+pub mod Saturation
+pub mod Steps

@@ -1,0 +1,5 @@
+pub mod Distances
+pub mod Dijkstra
+pub mod Saturating
+pub mod Projection
+pub mod lawful

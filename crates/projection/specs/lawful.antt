@@ -1,0 +1,2 @@
+pub mod Admissibility
+pub mod Projection

@@ -1,0 +1,4 @@
+pub mod Heap
+pub mod Content
+pub mod Sifting
+pub mod Entries

@@ -1,0 +1,10 @@
+pub mod advance;
+pub mod answer;
+pub mod calls;
+pub mod core;
+pub mod data;
+pub mod replay;
+pub mod search;
+pub mod start;
+pub mod step;
+pub mod write;

@@ -1,0 +1,88 @@
+// Walks operators, named by the arguments, from the initial state of the worked example, and prints every state on the way.
+mod sofa;
+
+use std::env;
+use std::error::AnyError;
+use std::io;
+use std::io::Write;
+use task::task::Task;
+
+// Writes the state's values by name.
+fn write_state<W: Write>(out: &mut W, task: &Task<'_>, row: &[u8]) -> io::Result<()> {
+    for variable in 0..row.len() {
+        out.write_all(b" ")?;
+        if let Some(name) = task.variable_name(variable) {
+            out.write_all(name)?;
+        }
+        out.write_all(b"=")?;
+        if let Some(name) = task.value_name(variable, row[variable]) {
+            out.write_all(name)?;
+        }
+    }
+    Ok(())
+}
+
+// Walks one operator more, and writes its line: its name, the state that it leads to and the cost so far. Answers the
+// cost so far, or none where the operator does not apply.
+fn write_step<W: Write>(
+    out: &mut W,
+    task: &Task<'_>,
+    operator: usize,
+    row: &mut [u8],
+    cost: u32,
+) -> io::Result<Option<u32>> {
+    let walked = task.walk(&[operator], row);
+    if walked.steps == 0 {
+        return Ok(None);
+    }
+    let total = cost.saturating_add(walked.cost);
+    if let Some(name) = task.operator_name(operator) {
+        out.write_all(name)?;
+    }
+    out.write_all(b":")?;
+    write_state(out, task, row)?;
+    writeln!(out, ", cost {total}")?;
+    Ok(Some(total))
+}
+
+// Walks the operators that the words name, a line each, and says where the walk ended.
+fn write_walk<W: Write>(
+    out: &mut W,
+    task: &Task<'_>,
+    words: &[String],
+    row: &mut [u8],
+) -> io::Result<()> {
+    let mut cost = 0;
+    out.write_all(b"start:")?;
+    write_state(out, task, row)?;
+    out.write_all(b"\n")?;
+    for word in words {
+        let Some(operator) = task.operator_named(word.as_bytes()) else {
+            return writeln!(out, "unknown operator: {word}");
+        };
+        let Some(total) = write_step(out, task, operator, row, cost)? else {
+            return writeln!(out, "does not apply: {word}");
+        };
+        cost = total;
+    }
+    let reached = if task.is_goal_state(row) {
+        "goal reached"
+    } else {
+        "goal not reached"
+    };
+    writeln!(out, "{reached}, total {cost}")
+}
+
+fn main(rt: LibcRuntime) -> Result<(), AnyError> {
+    let heap = rt.alloc();
+    let task = sofa::task();
+    let mut words = Vec::new(heap);
+    for word in env::args(&rt)?.skip(1) {
+        words.push(word)?;
+    }
+    let mut row = vec![in heap; 0u8; task.variable_count()]?;
+    task.initial_into(&mut row);
+    let mut out = rt.stdout();
+    write_walk(&mut out, &task, words.as_slice(), &mut row)?;
+    Ok(())
+}
