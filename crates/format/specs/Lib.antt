@@ -1,5 +1,2 @@
-pub mod Variables
-pub mod Entries
-pub mod Operators
 pub mod Whole
 pub mod Views

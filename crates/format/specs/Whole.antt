@@ -17,10 +17,10 @@ use Rattle.tables.specs.declared.records.Operator.{Operator}
 use Rattle.tables.specs.declared.records.Counts.{Counts}
 use Rattle.tables.specs.Records.{zeroVariable, zeroOperator, zeroEntry}
 use Rattle.lines.specs.Reading.{Place, Step, refused, read, andThen, faultNext, wordOf, numberFrom, belowFrom, top}
-use Rattle.format.specs.declared.entries.Shape.the-variants.{Fact}
-use Rattle.format.specs.Variables.{variablesOf, initialsOf}
-use Rattle.format.specs.Entries.{groupOf}
-use Rattle.format.specs.Operators.{operatorsOf}
+use Rattle.sections.specs.declared.entries.Shape.the-variants.{Fact}
+use Rattle.sections.specs.Variables.{variablesOf, initialsOf}
+use Rattle.sections.specs.Entries.{groupOf}
+use Rattle.sections.specs.Operators.{operatorsOf}
 
 -- the records of a task
 pub record Held : Type 0 where

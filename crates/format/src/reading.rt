@@ -1,10 +1,10 @@
-use crate::entries::Shape;
-use crate::entries::group;
-use crate::operators::operator_list;
-use crate::seen::Seen;
-use crate::variables::initial_values;
-use crate::variables::variable_list;
 use lines::cursor::Cursor;
+use sections::entries::Shape;
+use sections::entries::group;
+use sections::operators::operator_list;
+use sections::seen::Seen;
+use sections::variables::initial_values;
+use sections::variables::variable_list;
 use tables::cause::Cause;
 use tables::fault::Fault;
 use tables::records::Counts;

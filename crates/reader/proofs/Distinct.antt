@@ -14,7 +14,7 @@ use Rattle.std.proofs.shelf.Ways.{tells}
 use Rattle.tables.specs.declared.records.Entry.{Entry}
 use Rattle.tables.specs.Records.{zeroEntry}
 use Rattle.tables.specs.Rules.{Distinct}
-use Rattle.format.specs.Entries.{names}
+use Rattle.sections.specs.Entries.{names}
 
 pub names-none : (v : ℕ) (es : List Entry) → ((k : ℕ) → k < length es → getD es k zeroEntry .variable ≡ v → ⊥) → names v es ≡ false
 names-none v [] h = refl
@@ -39,8 +39,8 @@ pub new-in : (g : List Entry) (e : Entry) (xs : List Entry) → Distinct (g ++ e
 new-in g e xs d =
     let long : length (g ++ e ∷ xs) ≡ length g + suc (length xs) = length-append g (e ∷ xs) in
     names-none (e .variable) g (λ k l h.
-        let left = getD-append-left g (e ∷ xs) zeroEntry k l in
-        d k (length g) l (omega arith) (ap (λ z. z .variable) left ∙ (h ∙ sym (ap (λ z. z .variable) (at-end g e xs)))))
+    let left = getD-append-left g (e ∷ xs) zeroEntry k l in
+    d k (length g) l (omega arith) (ap (λ z. z .variable) left ∙ (h ∙ sym (ap (λ z. z .variable) (at-end g e xs)))))
 
 pub distinct-push : (g : List Entry) (e : Entry) → Distinct g → names (e .variable) g ≡ false → Distinct (g ++ e ∷ [])
 distinct-push g e d new i j below inside same =

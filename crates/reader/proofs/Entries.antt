@@ -25,9 +25,9 @@ use Rattle.lines.specs.declared.number.Number.the-variants.{MinusOne, Value, To
 use Rattle.lines.specs.Printable.{printable}
 use Rattle.lines.specs.Numbers.{numberOf, belowOf, andOf, twoOf, fourOf}
 use Rattle.lines.specs.Reading.{Place, Step, read, andThen, tested, given, lineOf, turns}
-use Rattle.format.specs.declared.entries.Shape.{Shape}
-use Rattle.format.specs.declared.entries.Shape.the-variants.{Fact, Effect}
-use Rattle.format.specs.Entries.{numbersOf, requiredOf, entryIn, names, entryOf, entryMore}
+use Rattle.sections.specs.declared.entries.Shape.{Shape}
+use Rattle.sections.specs.declared.entries.Shape.the-variants.{Fact, Effect}
+use Rattle.sections.specs.Entries.{numbersOf, requiredOf, entryIn, names, entryOf, entryMore}
 use Rattle.reader.specs.Named.{FactFits, EffectFits, RequiredBelow}
 use Rattle.reader.specs.Rendering.{spelled, spaced, factLine, effectLine, requiredWord}
 use Rattle.reader.proofs.Decimal.{decimal-from-number, minus-from-number}
@@ -73,7 +73,7 @@ required-parts d TooLong w b e f h = let bad : _≡_ {A = ℕ} 0 1 = cc in let n
 -- the four numbers of an entry in their ranges
 entry-parts : {C : Type 0} (vs : List Variable) (n0 n1 n2 n3 : Number) (e : Entry) → entryIn vs (n0, n1, n2, n3) ≡ Some e
     → (n0 ≡ Value 0 → n1 ≡ Value (e .variable) → e .variable < length vs → requiredOf (getD (domains vs) (e .variable) 0) n2 ≡ Some (e .required)
-        → n3 ≡ Value (e .value) → e .value < getD (domains vs) (e .variable) 0 → C) → C
+    → n3 ≡ Value (e .value) → e .value < getD (domains vs) (e .variable) 0 → C) → C
 entry-parts vs n0 n1 n2 n3 e h k =
     and-parts (belowOf 1 n0) _ e h (λ z e0 f0.
     and-parts (belowOf (length vs) n1) _ e f0 (λ v e1 f1.
@@ -102,7 +102,7 @@ entry-from Fact vs bs ns e h k =
     let req : requiredOf (getD (domains vs) (e .variable) 0) (Value (e .value)) ≡ Some (e .required) = sym (ap (requiredOf (getD (domains vs) (e .variable) 0)) z3) ∙ r in
     let t : ltb (e .value) (getD (domains vs) (e .variable) 0) ≡ true = lt-ltb (e .value) _ below in
     let same : cond true (Some (Some (e .value))) None ≡ Some (e .required) = rw t at req in
-    (record { variable = omega (arith, length-domains vs); required = cc; value = below }, rw (v-is, w-is) at bytes)))) 
+    (record { variable = omega (arith, length-domains vs); required = cc; value = below }, rw (v-is, w-is) at bytes))))
 entry-from Effect vs bs ns e h k =
     four-from bs (ns .0) (ns .1) (ns .2) (ns .3) h (λ v w x y g0 g1 g2 g3 bytes.
     entry-parts vs (ns .0) (ns .1) (ns .2) (ns .3) e k (λ z0 z1 inside r z3 below.
@@ -148,10 +148,11 @@ entry-reads Fact vs e few small h =
     let t : ltb (e .value) (getD (domains vs) (e .variable) 0) ≡ true = lt-ltb (e .value) _ (h .value) in
     let r : requiredOf (getD (domains vs) (e .variable) 0) (Value (e .value)) ≡ Some (e .required) = rw t (ap Some (sym (h .required))) in
     record {
-        numbers = (Value 0, Value (e .variable), Value (e .value), Value (e .value));
-        reads = rw two;
-        ranged = in-ranges vs e (Value (e .value)) (omega (arith, h .variable)) r (h .value);
-        prints = prints-spaced (decimal (e .variable)) (decimal (e .value)) (v .prints) (w .prints) }
+      numbers = (Value 0, Value (e .variable), Value (e .value), Value (e .value));
+      reads = rw two;
+      ranged = in-ranges vs e (Value (e .value)) (omega (arith, h .variable)) r (h .value);
+      prints = prints-spaced (decimal (e .variable)) (decimal (e .value)) (v .prints) (w .prints);
+    }
 entry-reads Effect vs e few small h =
     let len = length-domains vs in
     let z : Word (codes "0") (Value 0) = rw (decimal-digit 0 (omega arith)) at (decimal-word 0 (omega arith)) in
@@ -160,10 +161,11 @@ entry-reads Effect vs e few small h =
     let w = decimal-word (e .value) (omega (arith, h .value)) in
     let four = four-reads (codes "0") (decimal (e .variable)) (requiredWord (e .required)) (decimal (e .value)) (Value 0) (Value (e .variable)) (q .number) (Value (e .value)) z v (q .word) w in
     record {
-        numbers = (Value 0, Value (e .variable), q .number, Value (e .value));
-        reads = four;
-        ranged = in-ranges vs e (q .number) (omega (arith, h .variable)) (q .required) (h .value);
-        prints = prints-spaced (codes "0") (spaced (decimal (e .variable)) (spaced (requiredWord (e .required)) (decimal (e .value)))) refl (prints-spaced (decimal (e .variable)) (spaced (requiredWord (e .required)) (decimal (e .value))) (v .prints) (prints-spaced (requiredWord (e .required)) (decimal (e .value)) (q .word .prints) (w .prints))) }
+      numbers = (Value 0, Value (e .variable), q .number, Value (e .value));
+      reads = four;
+      ranged = in-ranges vs e (q .number) (omega (arith, h .variable)) (q .required) (h .value);
+      prints = prints-spaced (codes "0") (spaced (decimal (e .variable)) (spaced (requiredWord (e .required)) (decimal (e .value)))) refl (prints-spaced (decimal (e .variable)) (spaced (requiredWord (e .required)) (decimal (e .value))) (v .prints) (prints-spaced (requiredWord (e .required)) (decimal (e .value)) (q .word .prints) (w .prints)));
+    }
 
 not-true : (b : Bool) → not b ≡ true → b ≡ false
 not-true false h = refl
@@ -198,11 +200,12 @@ more-from shape vs room first es s es1 s1 h k =
     let b = entry-from shape vs bs ns e (g2 .0) (g3 .0 ∙ ap Some x-is) in
     let l : Line s bs s1 = rw (← same) (line-from s bs a1 e1) in
     k e (record {
-        made = cc;
-        fits = b .0;
-        new = rw (← x-is) (not-true (names (x .variable) (drop first es)) (g4 .0));
-        free = ltb-true (length es) room (g5 .0);
-        line = rw (← (b .1)) l })))))))
+      made = cc;
+      fits = b .0;
+      new = rw (← x-is) (not-true (names (x .variable) (drop first es)) (g4 .0));
+      free = ltb-true (length es) room (g5 .0);
+      line = rw (← (b .1)) l;
+    })))))))
 
 more-reads : (shape : Shape) (vs : List Variable) (room first : ℕ) (es : List Entry) (s : Place) (e : Entry) (r : List ℕ) → length vs ≤ 32 → getD (domains vs) (e .variable) 0 ≤ 255 → Fits shape (domains vs) e
     → names (e .variable) (drop first es) ≡ false → length es < room → s .rest ≡ (entryLine shape e ++ 10 ∷ []) ++ r → entryMore shape vs room first es s ≡ read (es ++ e ∷ []) (past s (entryLine shape e) r)
@@ -238,12 +241,13 @@ group-from shape vs room first (suc n) es s es1 s1 e below fits d h =
     let pushed : Distinct (drop first es2) = rw split (distinct-push (drop first es) x d (m .new)) in
     group-from shape vs room first n es2 a1 es1 s1 f1 (omega arith) (omega arith) pushed (λ xs q.
     h (x ∷ xs) (record {
-        made = q .made ∙ (ap (λ z. z ++ xs) (m .made) ∙ append-assoc es (x ∷ []) xs);
-        count = ap suc (q .count);
-        fit = (m .fits, q .fit);
-        distinct = rw (split, append-assoc) at (q .distinct);
-        free = omega (arith, q .free);
-        bytes = m .line .bytes ∙ (ap (λ z. (entryLine shape x ++ 10 ∷ []) ++ z) (q .bytes) ∙ sym (append-assoc (entryLine shape x ++ 10 ∷ []) (spelled (map (entryLine shape) xs)) (s1 .rest))) }))))
+      made = q .made ∙ (ap (λ z. z ++ xs) (m .made) ∙ append-assoc es (x ∷ []) xs);
+      count = ap suc (q .count);
+      fit = (m .fits, q .fit);
+      distinct = rw (split, append-assoc) at (q .distinct);
+      free = omega (arith, q .free);
+      bytes = m .line .bytes ∙ (ap (λ z. (entryLine shape x ++ 10 ∷ []) ++ z) (q .bytes) ∙ sym (append-assoc (entryLine shape x ++ 10 ∷ []) (spelled (map (entryLine shape) xs)) (s1 .rest)));
+    }))))
 
 pub record GroupReads (text : List ℕ) (shape : Shape) (vs : List Variable) (room first : ℕ) (es : List Entry) (s : Place) (xs : List Entry) (r : List ℕ) : Type 0 where
   pub to : Place

@@ -48,8 +48,9 @@ stands-past text s l r h e =
     let n : length (l ++ 10 ∷ []) ≡ length l + 1 = simp length-append in
     let long : length (s .rest) ≡ (length l + 1) + length r = ap length e ∙ simp length-append in
     record {
-        here = sym (drop-drop (length l + 1) (s .at) text) ∙ (ap (λ z. drop (length l + 1) z) (h .here ∙ e) ∙ drop-at (l ++ 10 ∷ []) r (length l + 1) n);
-        inside = omega (arith, h .inside) }
+      here = sym (drop-drop (length l + 1) (s .at) text) ∙ (ap (λ z. drop (length l + 1) z) (h .here ∙ e) ∙ drop-at (l ++ 10 ∷ []) r (length l + 1) n);
+      inside = omega (arith, h .inside);
+    }
 
 -- where two steps were accepted, each was
 pub after : {A B C : Type 0} (g : Step A) (k : A → Place → Step B) (b : B) (s : Place) → andThen g k ≡ read b s → ((a : A) (s1 : Place) → g ≡ read a s1 → k a s1 ≡ read b s → C) → C
@@ -241,9 +242,10 @@ pass-from (suc n) s u s1 e h =
     let f : s3 ≡ s2 = cc in
     let r : Line s l s2 = rw (← f) (line-from s l s3 e3) in
     h (l ∷ ls) (record {
-        count = ap suc (p .count);
-        bytes = r .bytes ∙ (ap (λ z. (l ++ 10 ∷ []) ++ z) (p .bytes) ∙ sym (append-assoc (l ++ 10 ∷ []) (spelled ls) (s1 .rest)));
-        prints = (r .prints, p .prints) }))))
+      count = ap suc (p .count);
+      bytes = r .bytes ∙ (ap (λ z. (l ++ 10 ∷ []) ++ z) (p .bytes) ∙ sym (append-assoc (l ++ 10 ∷ []) (spelled ls) (s1 .rest)));
+      prints = (r .prints, p .prints);
+    }))))
 
 pub record Passes (text : List ℕ) (s : Place) (ls : List (List ℕ)) (r : List ℕ) : Type 0 where
   pub to : Place
@@ -260,8 +262,9 @@ pass-reads text (l ∷ ls) s r e h st =
     let q = line-reads s l (spelled ls ++ r) e1 (h .0) in
     let p = pass-reads text ls (past s l (spelled ls ++ r)) r refl (h .1) (stands-past text s l (spelled ls ++ r) st e1) in
     record {
-        to = p .to;
-        reads = rw q (p .reads);
-        rest = p .rest;
-        at = p .at ∙ simp length-append (omega arith);
-        stands = p .stands }
+      to = p .to;
+      reads = rw q (p .reads);
+      rest = p .rest;
+      at = p .at ∙ simp length-append (omega arith);
+      stands = p .stands;
+    }

@@ -111,11 +111,12 @@ accepted text t h m vs n os k es kept valid st =
     let e4 = front (h .entries) k zeroEntry es (h .goals) (kept .entries) goal in
     let rules : Rules text (take (length (h .variables)) vs) (take (h .goals) es) (take (length (h .operators)) os) (take (length (h .entries)) es) = rw (e1, e2, e3, e4) (rules-kept text t h valid st) in
     record {
-        variables = counted (h .variables) m zeroVariable vs (kept .variables);
-        operators = counted (h .operators) n zeroOperator os (kept .operators);
-        entries = counted (h .entries) k zeroEntry es (kept .entries);
-        goals = goal;
-        rules = rules }
+      variables = counted (h .variables) m zeroVariable vs (kept .variables);
+      operators = counted (h .operators) n zeroOperator os (kept .operators);
+      entries = counted (h .entries) k zeroEntry es (kept .entries);
+      goals = goal;
+      rules = rules;
+    }
 
 -- the task that was made shows t
 shown : (text : List ℕ) (t : NamedTask) (h : Held) (m : ℕ) (vs : List Variable) (n : ℕ) (os : List Operator) (k : ℕ) (es : List Entry) (u : Task) → Kept h m vs n os k es → Valid t → Stating text t h → MadeOf text vs os es (countsOf h) u → Shows u t
@@ -129,10 +130,11 @@ shown text t h m vs n os k es u kept valid st made =
     let rs : u .operators .now ≡ h .operators = made .operators-are ∙ e2 in
     let tx : u .text .now ≡ text = made .text-is in
     record {
-        model-is = made .model-is ∙ (rw (e1, e2, e3, e4) (model-stated text t h st));
-        variable-names = λ v d l. ap (λ z. spanned (u .text .now) (getD z v zeroVariable .name)) ws ∙ (ap (λ z. spanned z (getD (h .variables) v zeroVariable .name)) tx ∙ variable-names text (t .variables) (h .variables) (st .variables) v d l);
-        value-names = λ v x d l b. ap (λ z. nthLine x (spanned (u .text .now) (getD z v zeroVariable .values))) ws ∙ (ap (λ z. nthLine x (spanned z (getD (h .variables) v zeroVariable .values))) tx ∙ value-names text (t .variables) (h .variables) (st .variables) (valid .variables) v x d l b);
-        operator-names = λ i d l. ap (λ z. spanned (u .text .now) (getD z i zeroOperator .name)) rs ∙ (ap (λ z. spanned z (getD (h .operators) i zeroOperator .name)) tx ∙ operator-names text (length (t .goal)) (t .operators) (h .operators) (st .operators) i d l) }
+      model-is = made .model-is ∙ (rw (e1, e2, e3, e4) (model-stated text t h st));
+      variable-names = λ v d l. ap (λ z. spanned (u .text .now) (getD z v zeroVariable .name)) ws ∙ (ap (λ z. spanned z (getD (h .variables) v zeroVariable .name)) tx ∙ variable-names text (t .variables) (h .variables) (st .variables) v d l);
+      value-names = λ v x d l b. ap (λ z. nthLine x (spanned (u .text .now) (getD z v zeroVariable .values))) ws ∙ (ap (λ z. nthLine x (spanned z (getD (h .variables) v zeroVariable .values))) tx ∙ value-names text (t .variables) (h .variables) (st .variables) (valid .variables) v x d l b);
+      operator-names = λ i d l. ap (λ z. spanned (u .text .now) (getD z i zeroOperator .name)) rs ∙ (ap (λ z. spanned z (getD (h .operators) i zeroOperator .name)) tx ∙ operator-names text (length (t .goal)) (t .operators) (h .operators) (st .operators) i d l);
+    }
 
 -- a reading that was refused
 read-err : (g : Result Held Fault) (f : Fault) (m : ℕ) (vs : List Variable) (n : ℕ) (os : List Operator) (k : ℕ) (es : List Entry) → TaskRead g (Err f) m vs n os k es → g ≡ Err f
@@ -143,22 +145,24 @@ pub loaded-refused : (text : List ℕ) (m n k : ℕ) (f : Fault) (vs : List Vari
 loaded-refused text m n k f vs os es t0 r =
     let g = read-err (taskOf text (roomOf m n k)) f m vs n os k es r in
     record {
-        accepted = λ e. (let bad : _≡_ {A = ℕ} 0 1 = cc in let no-way : ⊥ = omega arith in absurd no-way);
-        accepts = λ t valid enough short bytes. (let q = task-reads text m n k t valid enough short bytes in let bad : _≡_ {A = ℕ} 0 1 = cc (q .reads, g) in let no-way : ⊥ = omega arith in absurd no-way);
-        refused = λ f1 e. (let same : f ≡ f1 = cc in (g ∙ ap Err same, refl)) }
+      accepted = λ e. (let bad : _≡_ {A = ℕ} 0 1 = cc in let no-way : ⊥ = omega arith in absurd no-way);
+      accepts = λ t valid enough short bytes. (let q = task-reads text m n k t valid enough short bytes in let bad : _≡_ {A = ℕ} 0 1 = cc (q .reads, g) in let no-way : ⊥ = omega arith in absurd no-way);
+      refused = λ f1 e. (let same : f ≡ f1 = cc in (g ∙ ap Err same, refl));
+    }
 
 -- a reading that was accepted, and the making after it
 made-of : (text : List ℕ) (m n k : ℕ) (h : Held) (vs : List Variable) (os : List Operator) (es : List Entry) (r : Result (Unit {0}) Fault) (t0 u : Task) (t : NamedTask) → Kept h m vs n os k es → TaskFrom text m n k h t → Put text vs os es (countsOf h) r t0 u → taskOf text (roomOf m n k) ≡ Ok h → Loaded text m n k r t0 u
 made-of text m n k h vs os es (Ok x) t0 u t kept from put e =
     let s = shown text t h m vs n os k es u kept (from .valid) (from .states) (put .1) in
     record {
-        accepted = λ _. (t, from .valid, from .enough, from .short, from .bytes, s);
-        accepts = λ t1 valid enough short bytes.
-            (let q = task-reads text m n k t1 valid enough short bytes in
-            let same : q .held ≡ h = cc (q .reads, e) in
-            let st : Stating text t1 h = rw same at (q .states) in
-            (refl, shown text t1 h m vs n os k es u kept valid st (put .1)));
-        refused = λ f1 g. (let bad : _≡_ {A = ℕ} 0 1 = cc in let no-way : ⊥ = omega arith in absurd no-way) }
+      accepted = λ _. (t, from .valid, from .enough, from .short, from .bytes, s);
+      accepts = λ t1 valid enough short bytes.
+          (let q = task-reads text m n k t1 valid enough short bytes in
+          let same : q .held ≡ h = cc (q .reads, e) in
+          let st : Stating text t1 h = rw same at (q .states) in
+          (refl, shown text t1 h m vs n os k es u kept valid st (put .1)));
+      refused = λ f1 g. (let bad : _≡_ {A = ℕ} 0 1 = cc in let no-way : ⊥ = omega arith in absurd no-way);
+    }
 made-of text m n k h vs os es (Err f) t0 u t kept from put e = absurd (put .0 (accepted text t h m vs n os k es kept (from .valid) (from .states)))
 
 read-ok : {C : Type 0} (g : Result Held Fault) (c : Counts) (m : ℕ) (vs : List Variable) (n : ℕ) (os : List Operator) (k : ℕ) (es : List Entry) → TaskRead g (Ok c) m vs n os k es → ((h : Held) → g ≡ Ok h → countsOf h ≡ c → Kept h m vs n os k es → C) → C

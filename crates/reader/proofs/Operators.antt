@@ -22,9 +22,9 @@ use Rattle.tables.specs.Rules.{SpanFits, Distinct}
 use Rattle.task.specs.Model.{Action}
 use Rattle.lines.specs.Printable.{printable}
 use Rattle.lines.specs.Reading.{Place, Step, read, andThen, tested, wordOf, belowFrom, nameOf, turns}
-use Rattle.format.specs.declared.entries.Shape.the-variants.{Fact, Effect}
-use Rattle.format.specs.Entries.{groupOf, entryMore}
-use Rattle.format.specs.Operators.{operatorOf, operatorMore, inside}
+use Rattle.sections.specs.declared.entries.Shape.the-variants.{Fact, Effect}
+use Rattle.sections.specs.Entries.{groupOf, entryMore}
+use Rattle.sections.specs.Operators.{operatorOf, operatorMore, inside}
 use Rattle.reader.specs.Named.{NamedOperator, ValidOperator, FactFits, EffectFits, entriesOf}
 use Rattle.reader.specs.Rendering.{spelled, operatorLines, factLine, effectLine}
 use Rattle.reader.proofs.Leaves.{after, tested-parts, past, span, Stands, stands-past, Line, word-from, word-reads, below-from, below-reads, name-from, name-reads, span-bytes, span-fits, spelled-append}
@@ -37,7 +37,7 @@ with-it a k = k a
 -- the bytes of an operator's lines before r
 bytes-of : (o : NamedOperator) (r : List ℕ) → spelled (operatorLines o) ++ r
     ≡ (codes "begin_operator" ++ 10 ∷ []) ++ ((o .name ++ 10 ∷ []) ++ ((decimal (length (o .action .conditions)) ++ 10 ∷ []) ++ (spelled (map factLine (o .action .conditions)) ++ ((decimal (length (o .action .effects)) ++ 10 ∷ [])
-        ++ (spelled (map effectLine (o .action .effects)) ++ ((decimal (o .action .price) ++ 10 ∷ []) ++ ((codes "end_operator" ++ 10 ∷ []) ++ r)))))))
+    ++ (spelled (map effectLine (o .action .effects)) ++ ((decimal (o .action .price) ++ 10 ∷ []) ++ ((codes "end_operator" ++ 10 ∷ []) ++ r)))))))
 bytes-of o r = simp (spelled-append, append-assoc)
 
 start-distinct : (es : List Entry) → Distinct (drop (length es) es)
@@ -65,27 +65,29 @@ more-made vs rooms room os es s os1 es1 s1 l cs fs price conditions effects made
     let b4 : a3 .rest ≡ spelled (map factLine cs) ++ a4 .rest = g4 .bytes in
     let b6 : a5 .rest ≡ spelled (map effectLine fs) ++ a6 .rest = g6 .bytes in
     let chain : s .rest ≡ (codes "begin_operator" ++ 10 ∷ []) ++ ((l ++ 10 ∷ []) ++ ((decimal (length cs) ++ 10 ∷ []) ++ (spelled (map factLine cs) ++ ((decimal (length fs) ++ 10 ∷ [])
-        ++ (spelled (map effectLine fs) ++ ((decimal price ++ 10 ∷ []) ++ ((codes "end_operator" ++ 10 ∷ []) ++ s1 .rest))))))) = cc in
+    ++ (spelled (map effectLine fs) ++ ((decimal price ++ 10 ∷ []) ++ ((codes "end_operator" ++ 10 ∷ []) ++ s1 .rest))))))) = cc in
     let both : es1 ≡ es ++ (cs ++ fs) = g6 .made ∙ (ap (λ z. z ++ fs) (g4 .made) ∙ append-assoc es cs fs) in
     let part : drop (length es) es2 ≡ cs = ap (λ z. drop (length es) z) (g4 .made) ∙ drop-at es cs (length es) refl in
     let len2 : length es2 ≡ length es + length cs = ap length (g4 .made) ∙ length-append es cs in
     let len1 : length es1 ≡ length es2 + length fs = ap length (g6 .made) ∙ length-append es2 fs in
     let ld = length-domains vs in
     record {
-        made = made;
-        pushed = pushed;
-        entries = both;
-        valid = record {
-            name = l2 .prints;
-            conditions = g4 .fit;
-            effects = g6 .fit;
-            few-conditions = omega (arith, g4 .count);
-            few-effects = omega (arith, g6 .count);
-            distinct = rw part at (g6 .distinct);
-            price = omega arith };
-        free = free;
-        stored = omega (arith, g6 .free, g6 .count);
-        bytes = chain ∙ sym (bytes-of o (s1 .rest)) }
+      made = made;
+      pushed = pushed;
+      entries = both;
+      valid = record {
+        name = l2 .prints;
+        conditions = g4 .fit;
+        effects = g6 .fit;
+        few-conditions = omega (arith, g4 .count);
+        few-effects = omega (arith, g6 .count);
+        distinct = rw part at (g6 .distinct);
+        price = omega arith;
+      };
+      free = free;
+      stored = omega (arith, g6 .free, g6 .count);
+      bytes = chain ∙ sym (bytes-of o (s1 .rest));
+    }
 
 pub more-from : {C : Type 0} (vs : List Variable) (rooms room : ℕ) (os : List Operator) (es : List Entry) (s : Place) (os1 : List Operator) (es1 : List Entry) (s1 : Place) → operatorMore vs rooms room (os, es) s ≡ read (os1, es1) s1 → length es ≤ room
     → ((o : NamedOperator) → More vs rooms room os es s os1 es1 s1 o → C) → C
@@ -125,8 +127,8 @@ more-from vs rooms room os es s os1 es1 s1 e fits h =
     let l10' : Line a8 (codes "end_operator") s1 = rw (← s1-is, ← a9-is) l10 in
     let l2 : Line a1 l a3 = rw (t2 .1) at named in
     h (record { name = l; action = record { price = price; conditions = cs; effects = fs } })
-        (more-made vs rooms room os es s os1 es1 s1 l cs fs price conditions effects (made .0) es2 a1 a3 a4 a5 a6 a7 a8 l1 l2 (l4 .line) (l4 .high) g5 (l6 .line) (l6 .high) g7' (l8 .line) (l8 .high) l10'
-            (ltb-true (length os) rooms (t2 .0)) os-is))))))))))))))
+    (more-made vs rooms room os es s os1 es1 s1 l cs fs price conditions effects (made .0) es2 a1 a3 a4 a5 a6 a7 a8 l1 l2 (l4 .line) (l4 .high) g5 (l6 .line) (l6 .high) g7' (l8 .line) (l8 .high) l10'
+    (ltb-true (length os) rooms (t2 .0)) os-is))))))))))))))
 
 -- a record that stands for an operator of the text whose entries begin at first
 pub record OperatorAt (text : List ℕ) (first : ℕ) (o : NamedOperator) (r : Operator) : Type 0 where
@@ -185,10 +187,11 @@ tail-reads text vs room es name s o r few small free valid e st =
     let w3 = below-reads 65536 (o .action .price) (g .to) r3 (g .rest) (omega (arith, valid .price)) (omega arith) in
     let w4 = word-reads (codes "end_operator") s3 r refl refl in
     record {
-        to = past s3 (codes "end_operator") r;
-        reads = rw (w1, g .reads, w3, w4);
-        rest = refl;
-        stands = stands-past text s3 (codes "end_operator") r t3 refl })
+      to = past s3 (codes "end_operator") r;
+      reads = rw (w1, g .reads, w3, w4);
+      rest = refl;
+      stands = stands-past text s3 (codes "end_operator") r t3 refl;
+    })
 
 pub more-reads : (text : List ℕ) (vs : List Variable) (rooms room : ℕ) (os : List Operator) (es : List Entry) (s : Place) (o : NamedOperator) (r : List ℕ) → length vs ≤ 32 → ((v : ℕ) → getD (domains vs) v 0 ≤ 255) → length os < rooms
     → length es + length (entriesOf o) ≤ room → ValidOperator (domains vs) o → s .rest ≡ spelled (operatorLines o) ++ r → Stands text s → MoreReads text vs rooms room os es s o r
@@ -221,18 +224,20 @@ more-reads text vs rooms room os es s o r few small free stored valid e st =
     with-it (group-reads text Fact vs room (length es) cs es s3 r3 few small (valid .conditions) (omega arith) d (omega arith) refl t3) (λ g.
     with-it (tail-reads text vs room es (span s1 (o .name)) (g .to) o r few small (omega (arith, length-append es cs)) valid (g .rest) (g .stands)) (λ t.
     record {
-        made = record { name = span s1 (o .name); price = o .action .price; first = length es; conditions = length cs; effects = length fs };
-        to = t .to;
-        reads = rw (w1, f1, w2, w3, g .reads, t .reads, append-assoc);
-        rest = t .rest;
-        stands = t .stands;
-        is = record {
-            name = span-bytes text s1 (o .name) (10 ∷ r1) t1 line;
-            name-fits = span-fits text s1 (o .name) (10 ∷ r1) t1 line;
-            price = refl;
-            starts = refl;
-            conditions = refl;
-            effects = refl } }))
+      made = record { name = span s1 (o .name); price = o .action .price; first = length es; conditions = length cs; effects = length fs };
+      to = t .to;
+      reads = rw (w1, f1, w2, w3, g .reads, t .reads, append-assoc);
+      rest = t .rest;
+      stands = t .stands;
+      is = record {
+        name = span-bytes text s1 (o .name) (10 ∷ r1) t1 line;
+        name-fits = span-fits text s1 (o .name) (10 ∷ r1) t1 line;
+        price = refl;
+        starts = refl;
+        conditions = refl;
+        effects = refl;
+      };
+    }))
 
 spelled-more : (o : NamedOperator) (xs : List NamedOperator) (r : List ℕ) → spelled (operatorLines o ++ joined operatorLines xs) ++ r ≡ spelled (operatorLines o) ++ (spelled (joined operatorLines xs) ++ r)
 spelled-more o xs r = ap (λ z. z ++ r) (spelled-append (operatorLines o) (joined operatorLines xs)) ∙ append-assoc (spelled (operatorLines o)) (spelled (joined operatorLines xs)) r
@@ -260,12 +265,13 @@ many-from (suc n) vs rooms room os es s b s1 e fits stored h =
     let longer : length (b1 .0) ≡ length os + 1 = ap length (m .pushed) ∙ length-append os (m .made ∷ []) in
     many-from n vs rooms room (b1 .0) (b1 .1) a1 b s1 f1 (omega (arith, m .free)) (m .stored) (λ xs q.
     h (o ∷ xs) (record {
-        entries = q .entries ∙ (ap (λ z. z ++ joined entriesOf xs) (m .entries) ∙ append-assoc es (entriesOf o) (joined entriesOf xs));
-        count = ap suc (q .count);
-        valid = (m .valid, q .valid);
-        free = omega (arith, q .free);
-        stored = q .stored;
-        bytes = m .bytes ∙ (ap (λ z. spelled (operatorLines o) ++ z) (q .bytes) ∙ sym (spelled-more o xs (s1 .rest))) }))))
+      entries = q .entries ∙ (ap (λ z. z ++ joined entriesOf xs) (m .entries) ∙ append-assoc es (entriesOf o) (joined entriesOf xs));
+      count = ap suc (q .count);
+      valid = (m .valid, q .valid);
+      free = omega (arith, q .free);
+      stored = q .stored;
+      bytes = m .bytes ∙ (ap (λ z. spelled (operatorLines o) ++ z) (q .bytes) ∙ sym (spelled-more o xs (s1 .rest)));
+    }))))
 
 -- records that stand for operators of the text, whose entries begin at first
 abbrev pub AllAt : List ℕ → ℕ → List NamedOperator → List Operator → Type 0
@@ -289,12 +295,13 @@ many-reads-more text vs rooms room os es s o xs r t m q =
     let k : length (es ++ entriesOf o) ≡ length es + length (entriesOf o) = length-append es (entriesOf o) in
     let are1 : AllAt text (length es + length (entriesOf o)) xs (q .records) = rw k at (q .are) in
     record {
-        records = m .made ∷ q .records;
-        to = q .to;
-        reads = rw (m .reads) (q .reads ∙ rw (append-assoc os (m .made ∷ []) (q .records), append-assoc es (entriesOf o) (joined entriesOf xs)));
-        rest = q .rest;
-        stands = q .stands;
-        are = (m .is, are1) }
+      records = m .made ∷ q .records;
+      to = q .to;
+      reads = rw (m .reads) (q .reads ∙ rw (append-assoc os (m .made ∷ []) (q .records), append-assoc es (entriesOf o) (joined entriesOf xs)));
+      rest = q .rest;
+      stands = q .stands;
+      are = (m .is, are1);
+    }
 
 pub many-reads : (text : List ℕ) (vs : List Variable) (rooms room : ℕ) (xs : List NamedOperator) (os : List Operator) (es : List Entry) (s : Place) (r : List ℕ) → length vs ≤ 32 → ((v : ℕ) → getD (domains vs) v 0 ≤ 255)
     → length os + length xs ≤ rooms → length es + length (joined entriesOf xs) ≤ room → All (ValidOperator (domains vs)) xs → s .rest ≡ spelled (joined operatorLines xs) ++ r → Stands text s → ManyReads text vs rooms room os es s xs r
@@ -306,4 +313,4 @@ many-reads text vs rooms room (o ∷ xs) os es s r few small free stored valid e
     let longer : length (os ++ m .made ∷ []) ≡ length os + 1 = length-append os (m .made ∷ []) in
     let more : length (es ++ entriesOf o) ≡ length es + length (entriesOf o) = length-append es (entriesOf o) in
     many-reads-more text vs rooms room os es s o xs r (spelled (joined operatorLines xs) ++ r) m
-        (many-reads text vs rooms room xs (os ++ m .made ∷ []) (es ++ entriesOf o) (m .to) r few small (omega arith) (omega arith) (valid .1) (m .rest) (m .stands)))
+    (many-reads text vs rooms room xs (os ++ m .made ∷ []) (es ++ entriesOf o) (m .to) r few small (omega arith) (omega arith) (valid .1) (m .rest) (m .stands)))

@@ -57,7 +57,7 @@ four-from bs a b c d e h =
     first-from (p .1) (q .0) (q .1) e2 (λ w f2 g2.
     two-from (q .1) (r .0) (r .1) e3 (λ x y f3 f4 g3.
     h v w x y (f1 ∙ ap Some a-is) (f2 ∙ ap Some b-is) (f3 ∙ ap Some c-is) (f4 ∙ ap Some d-is)
-        (g1 ∙ ap (λ z. spaced v z) (g2 ∙ ap (λ z. spaced w z) g3))))))))
+    (g1 ∙ ap (λ z. spaced v z) (g2 ∙ ap (λ z. spaced w z) g3))))))))
 
 -- a word that writes a number: digits, or -1
 pub record Word (w : List ℕ) (n : Number) : Type 0 where

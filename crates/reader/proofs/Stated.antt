@@ -71,8 +71,8 @@ operators-fit-entries : (ds : List ℕ) (os : List NamedOperator) → All (Valid
 operators-fit-entries ds [] h = tt
 operators-fit-entries ds (o ∷ os) h =
     all-append (EffectFits ds) (entriesOf o) (joined entriesOf os)
-        (all-append (EffectFits ds) (o .action .conditions) (o .action .effects) (all-weaker (FactFits ds) (EffectFits ds) (fact-fits ds) (o .action .conditions) (h .0 .conditions)) (h .0 .effects))
-        (operators-fit-entries ds os (h .1))
+    (all-append (EffectFits ds) (o .action .conditions) (o .action .effects) (all-weaker (FactFits ds) (EffectFits ds) (fact-fits ds) (o .action .conditions) (h .0 .conditions)) (h .0 .effects))
+    (operators-fit-entries ds os (h .1))
 
 entries-fit : (ws : List Variable) (es : List Entry) → All (EffectFits (domains ws)) es → EntriesFit ws es
 entries-fit ws es h k l =
@@ -134,9 +134,10 @@ parts-are text pre post es x r e a =
     let l2 = length-append cs fs in
     let l3 = length-append pre cs in
     record {
-        conditions = part-is pre cs (fs ++ post) es (r .first) (effectsAt r) (e ∙ ap (λ z. pre ++ z) (append-assoc cs fs post)) (a .starts) (omega (arith, a .starts, a .conditions));
-        effects = part-is (pre ++ cs) fs post es (effectsAt r) (endAt r) (e ∙ (ap (λ z. pre ++ z) (append-assoc cs fs post) ∙ sym (append-assoc pre cs (fs ++ post)))) (omega (arith, a .starts, a .conditions)) (omega (arith, a .starts, a .conditions, a .effects));
-        both = part-is pre (cs ++ fs) post es (r .first) (endAt r) e (a .starts) (omega (arith, a .starts, a .conditions, a .effects)) }
+      conditions = part-is pre cs (fs ++ post) es (r .first) (effectsAt r) (e ∙ ap (λ z. pre ++ z) (append-assoc cs fs post)) (a .starts) (omega (arith, a .starts, a .conditions));
+      effects = part-is (pre ++ cs) fs post es (effectsAt r) (endAt r) (e ∙ (ap (λ z. pre ++ z) (append-assoc cs fs post) ∙ sym (append-assoc pre cs (fs ++ post)))) (omega (arith, a .starts, a .conditions)) (omega (arith, a .starts, a .conditions, a .effects));
+      both = part-is pre (cs ++ fs) post es (r .first) (endAt r) e (a .starts) (omega (arith, a .starts, a .conditions, a .effects));
+    }
 
 next-part : (pre : List Entry) (x : NamedOperator) (xs : List NamedOperator) (es : List Entry) → es ≡ pre ++ (entriesOf x ++ joined entriesOf xs) → es ≡ (pre ++ entriesOf x) ++ joined entriesOf xs
 next-part pre x xs es e = e ∙ sym (append-assoc pre (entriesOf x) (joined entriesOf xs))
@@ -174,18 +175,20 @@ rules-kept text t h valid st =
     let n = length-operators text (length (t .goal)) (t .operators) (h .operators) (st .operators) in
     let m : length (h .entries) ≡ length (t .goal) + length (joined entriesOf (t .operators)) = ap length (st .entries) ∙ length-append (t .goal) (joined entriesOf (t .operators)) in
     record {
-        some = omega (arith, valid .some);
-        few = omega (arith, valid .few);
-        listed = omega (arith, valid .listed);
-        stored = omega (arith, valid .stored, ap length (st .entries));
-        variables-fit = variable-fits text (t .variables) (h .variables) (st .variables) (valid .variables);
-        operators-fit = operators-fit text (length (h .entries)) (domainsOf (t .variables)) (length (t .goal)) (t .operators) (h .operators) (st .operators) (valid .operators) (omega arith);
-        entries = record {
-            goal-fits = rw goal-is (entries-fit (h .variables) (t .goal) facts);
-            goal-distinct = rw goal-is (valid .distinct);
-            entries-fit = entries-fit (h .variables) (h .entries) all;
-            required-fit = required-fit (h .variables) (h .entries) all;
-            operators-distinct = operators-distinct text (domainsOf (t .variables)) (t .goal) (h .entries) (t .operators) (h .operators) (st .entries) (st .operators) (valid .operators) } }
+      some = omega (arith, valid .some);
+      few = omega (arith, valid .few);
+      listed = omega (arith, valid .listed);
+      stored = omega (arith, valid .stored, ap length (st .entries));
+      variables-fit = variable-fits text (t .variables) (h .variables) (st .variables) (valid .variables);
+      operators-fit = operators-fit text (length (h .entries)) (domainsOf (t .variables)) (length (t .goal)) (t .operators) (h .operators) (st .operators) (valid .operators) (omega arith);
+      entries = record {
+        goal-fits = rw goal-is (entries-fit (h .variables) (t .goal) facts);
+        goal-distinct = rw goal-is (valid .distinct);
+        entries-fit = entries-fit (h .variables) (h .entries) all;
+        required-fit = required-fit (h .variables) (h .entries) all;
+        operators-distinct = operators-distinct text (domainsOf (t .variables)) (t .goal) (h .entries) (t .operators) (h .operators) (st .entries) (st .operators) (valid .operators);
+      };
+    }
 
 -- and state its model
 pub model-stated : (text : List ℕ) (t : NamedTask) (h : Held) → Stating text t h → stated (h .variables) (take (h .goals) (h .entries)) (h .operators) (h .entries) ≡ modelOf t

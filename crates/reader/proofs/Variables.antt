@@ -18,7 +18,7 @@ use Rattle.tables.specs.Records.{spanned}
 use Rattle.tables.specs.Rules.{SpanFits}
 use Rattle.lines.specs.Printable.{printable}
 use Rattle.lines.specs.Reading.{Place, Step, read, andThen, tested, wordOf, numberFrom, belowFrom, nameOf, turns, passed}
-use Rattle.format.specs.Variables.{variableOf, variableMore, withInitial, initialsOf}
+use Rattle.sections.specs.Variables.{variableOf, variableMore, withInitial, initialsOf}
 use Rattle.reader.specs.Named.{NamedVariable, ValidVariable, domainsOf}
 use Rattle.reader.specs.Rendering.{spelled, variableLines}
 use Rattle.reader.proofs.Leaves.{after, tested-parts, past, span, Stands, stands-past, Line, word-from, word-reads, number-from, number-reads, below-from, below-reads, name-from, name-reads, span-bytes, span-fits, spelled-append, Passed, pass-from, Passes, pass-reads}
@@ -74,11 +74,12 @@ more-from room vs s ws s1 e h =
     let b7 : a6 .rest ≡ (codes "end_variable" ++ 10 ∷ []) ++ s1 .rest = rw (s1-is, a9-is) (l7 .bytes) in
     let chain : s .rest ≡ (codes "begin_variable" ++ 10 ∷ []) ++ ((l ++ 10 ∷ []) ++ ((codes "-1" ++ 10 ∷ []) ++ ((decimal (length ls) ++ 10 ∷ []) ++ (spelled ls ++ ((codes "end_variable" ++ 10 ∷ []) ++ s1 .rest))))) = cc (pass .bytes) in
     h (ltb-true (length vs) room (t2 .0)) v (record {
-        made = rec;
-        pushed = ws-is;
-        domain = sym (ap (λ z. z .domain) made-is) ∙ sym (pass .count);
-        valid = record { name = named .prints; names = pass .prints; some = omega (arith, l5 .low, pass .count); many = omega (arith, l5 .high, pass .count) };
-        bytes = chain ∙ sym (bytes-of v (s1 .rest)) })))))))))))
+      made = rec;
+      pushed = ws-is;
+      domain = sym (ap (λ z. z .domain) made-is) ∙ sym (pass .count);
+      valid = record { name = named .prints; names = pass .prints; some = omega (arith, l5 .low, pass .count); many = omega (arith, l5 .high, pass .count) };
+      bytes = chain ∙ sym (bytes-of v (s1 .rest));
+    })))))))))))
 
 -- a record that stands for a variable of the text
 pub record VariableAt (text : List ℕ) (v : NamedVariable) (r : Variable) : Type 0 where
@@ -124,17 +125,19 @@ more-reads text room vs s v r free valid e st =
     let made : Variable = record { name = span s1 (v .name); values = span s4 (spelled (v .values)); domain = n; initial = 0 } in
     let line : r1 ≡ v .name ++ (10 ∷ r2) = append-assoc (v .name) (10 ∷ []) r2 in
     record {
-        made = made;
-        to = past (w5 .to) (codes "end_variable") r;
-        reads = rw (w1, f1, w2, w3, w4, w5 .reads, w6, w5 .at);
-        rest = refl;
-        stands = stands-past text (w5 .to) (codes "end_variable") r (w5 .stands) (w5 .rest);
-        is = record {
-            name = span-bytes text s1 (v .name) (10 ∷ r2) t1 line;
-            name-fits = span-fits text s1 (v .name) (10 ∷ r2) t1 line;
-            values = span-bytes text s4 (spelled (v .values)) r5 t4 refl;
-            values-fit = span-fits text s4 (spelled (v .values)) r5 t4 refl;
-            domain = refl } }
+      made = made;
+      to = past (w5 .to) (codes "end_variable") r;
+      reads = rw (w1, f1, w2, w3, w4, w5 .reads, w6, w5 .at);
+      rest = refl;
+      stands = stands-past text (w5 .to) (codes "end_variable") r (w5 .stands) (w5 .rest);
+      is = record {
+        name = span-bytes text s1 (v .name) (10 ∷ r2) t1 line;
+        name-fits = span-fits text s1 (v .name) (10 ∷ r2) t1 line;
+        values = span-bytes text s4 (spelled (v .values)) r5 t4 refl;
+        values-fit = span-fits text s4 (spelled (v .values)) r5 t4 refl;
+        domain = refl;
+      };
+    }
 
 spelled-more : (v : NamedVariable) (xs : List NamedVariable) (r : List ℕ) → spelled (variableLines v ++ joined variableLines xs) ++ r ≡ spelled (variableLines v) ++ (spelled (joined variableLines xs) ++ r)
 spelled-more v xs r = ap (λ z. z ++ r) (spelled-append (variableLines v) (joined variableLines xs)) ∙ append-assoc (spelled (variableLines v)) (spelled (joined variableLines xs)) r
@@ -162,13 +165,14 @@ many-from (suc n) room vs s ws s1 e fits h =
     let longer : length vs1 ≡ length vs + 1 = ap length (m .pushed) ∙ simp length-append in
     many-from n room vs1 a1 ws s1 f1 (omega arith) (λ xs q.
     h (v ∷ xs) (record {
-        records = m .made ∷ q .records;
-        made = q .made ∙ (ap (λ z. z ++ q .records) (m .pushed) ∙ append-assoc vs (m .made ∷ []) (q .records));
-        sizes = rw (m .domain, q .sizes);
-        count = ap suc (q .count);
-        valid = (m .valid, q .valid);
-        free = omega (arith, q .free);
-        bytes = m .bytes ∙ (ap (λ z. spelled (variableLines v) ++ z) (q .bytes) ∙ sym (spelled-more v xs (s1 .rest))) }))))
+      records = m .made ∷ q .records;
+      made = q .made ∙ (ap (λ z. z ++ q .records) (m .pushed) ∙ append-assoc vs (m .made ∷ []) (q .records));
+      sizes = rw (m .domain, q .sizes);
+      count = ap suc (q .count);
+      valid = (m .valid, q .valid);
+      free = omega (arith, q .free);
+      bytes = m .bytes ∙ (ap (λ z. spelled (variableLines v) ++ z) (q .bytes) ∙ sym (spelled-more v xs (s1 .rest)));
+    }))))
 
 -- records that stand for variables of the text
 abbrev pub AllAt : List ℕ → List NamedVariable → List Variable → Type 0
@@ -192,12 +196,13 @@ many-reads-more : (text : List ℕ) (v : NamedVariable) (xs : List NamedVariable
 unfolding turns
 many-reads-more text v xs room vs s r t m q =
     record {
-        records = m .made ∷ q .records;
-        to = q .to;
-        reads = rw (m .reads) (q .reads ∙ ap (λ z. read z (q .to)) (append-assoc vs (m .made ∷ []) (q .records)));
-        rest = q .rest;
-        stands = q .stands;
-        are = (m .is, q .are) }
+      records = m .made ∷ q .records;
+      to = q .to;
+      reads = rw (m .reads) (q .reads ∙ ap (λ z. read z (q .to)) (append-assoc vs (m .made ∷ []) (q .records)));
+      rest = q .rest;
+      stands = q .stands;
+      are = (m .is, q .are);
+    }
 
 pub many-reads : (text : List ℕ) (xs : List NamedVariable) (room : ℕ) (vs : List Variable) (s : Place) (r : List ℕ) → length vs + length xs ≤ room → All Declared xs → s .rest ≡ spelled (joined variableLines xs) ++ r → Stands text s → ManyReads text room vs s xs r
 unfolding turns
@@ -206,7 +211,7 @@ many-reads text (v ∷ xs) room vs s r fits valid e st =
     with-it (more-reads text room vs s v (spelled (joined variableLines xs) ++ r) (omega arith) (valid .0) (e ∙ spelled-more v xs r) st) (λ m.
     let longer : length (vs ++ m .made ∷ []) ≡ length vs + 1 = length-append vs (m .made ∷ []) in
     many-reads-more text v xs room vs s r (spelled (joined variableLines xs) ++ r) m
-        (many-reads text xs room (vs ++ m .made ∷ []) (m .to) r (omega arith) (valid .1) (m .rest) (m .stands)))
+    (many-reads text xs room (vs ++ m .made ∷ []) (m .to) r (omega arith) (valid .1) (m .rest) (m .stands)))
 
 -- the initial state
 abbrev initialLine : NamedVariable → List ℕ
@@ -238,14 +243,15 @@ initials-from (x ∷ xs) done (v ∷ vs) s ws s1 e sizes valid h =
     let y : NamedVariable = record { name = x .name; values = x .values; initial = i } in
     initials-from xs (done ++ withInitial v i ∷ []) vs a1 ws s1 f1 rest (valid .1) (λ ys q.
     h (y ∷ ys) (record {
-        records = withInitial v i ∷ q .records;
-        made = q .made ∙ append-assoc done (withInitial v i ∷ []) (q .records);
-        sizes = rw (q .sizes);
-        lines = ap (λ z. variableLines x ++ z) (q .lines);
-        same = rw (q .same);
-        count = ap suc (q .count);
-        valid = (record { name = valid .0 .name; names = valid .0 .names; many = valid .0 .many; initial = omega (arith, l .high) }, q .valid);
-        bytes = l .line .bytes ∙ (ap (λ z. (decimal i ++ 10 ∷ []) ++ z) (q .bytes) ∙ sym (append-assoc (decimal i ++ 10 ∷ []) (spelled (map (λ v. decimal (v .initial)) ys)) (s1 .rest))) })))
+      records = withInitial v i ∷ q .records;
+      made = q .made ∙ append-assoc done (withInitial v i ∷ []) (q .records);
+      sizes = rw (q .sizes);
+      lines = ap (λ z. variableLines x ++ z) (q .lines);
+      same = rw (q .same);
+      count = ap suc (q .count);
+      valid = (record { name = valid .0 .name; names = valid .0 .names; many = valid .0 .many; initial = omega (arith, l .high) }, q .valid);
+      bytes = l .line .bytes ∙ (ap (λ z. (decimal i ++ 10 ∷ []) ++ z) (q .bytes) ∙ sym (append-assoc (decimal i ++ 10 ∷ []) (spelled (map (λ v. decimal (v .initial)) ys)) (s1 .rest)));
+    })))
 
 -- records that stand for variables of the text, with their initial values
 abbrev pub AllIs : List ℕ → List NamedVariable → List Variable → Type 0
@@ -274,9 +280,10 @@ initials-reads text (x ∷ xs) done (v ∷ vs) s r are valid e st =
     let w = below-reads (v .domain) i s r1 e1 (omega (arith, a .domain, valid .0 .initial)) (omega (arith, a .domain, valid .0 .many)) in
     let q = initials-reads text xs (done ++ withInitial v i ∷ []) vs (past s (decimal i) r1) r (are .1) (valid .1) refl (stands-past text s (decimal i) r1 st e1) in
     record {
-        records = withInitial v i ∷ q .records;
-        to = q .to;
-        reads = rw w (q .reads ∙ rw append-assoc);
-        rest = q .rest;
-        stands = q .stands;
-        are = (record { name = a .name; name-fits = a .name-fits; values = a .values; values-fit = a .values-fit; domain = a .domain }, refl, q .are) }
+      records = withInitial v i ∷ q .records;
+      to = q .to;
+      reads = rw w (q .reads ∙ rw append-assoc);
+      rest = q .rest;
+      stands = q .stands;
+      are = (record { name = a .name; name-fits = a .name-fits; values = a .values; values-fit = a .values-fit; domain = a .domain }, refl, q .are);
+    }

@@ -18,10 +18,10 @@ use Rattle.tables.specs.declared.records.Operator.{Operator}
 use Rattle.tables.specs.declared.records.Entry.{Entry}
 use Rattle.tables.specs.Rules.{Distinct}
 use Rattle.lines.specs.Reading.{Place, Step, refused, read, andThen, faultNext, wordOf, numberFrom, belowFrom, turns, top}
-use Rattle.format.specs.declared.entries.Shape.the-variants.{Fact, Effect}
-use Rattle.format.specs.Variables.{variablesOf, initialsOf}
-use Rattle.format.specs.Entries.{groupOf}
-use Rattle.format.specs.Operators.{operatorsOf, operatorMore, inside}
+use Rattle.sections.specs.declared.entries.Shape.the-variants.{Fact, Effect}
+use Rattle.sections.specs.Variables.{variablesOf, initialsOf}
+use Rattle.sections.specs.Entries.{groupOf}
+use Rattle.sections.specs.Operators.{operatorsOf, operatorMore, inside}
 use Rattle.format.specs.Whole.{Held, Room, headingOf, stateOf, goalOf, ended, bodyOf, wholeOf}
 use Rattle.reader.specs.Named.{NamedVariable, NamedOperator, NamedTask, ValidVariable, ValidOperator, FactFits, Valid, domainsOf, entriesOf, allEntries}
 use Rattle.reader.specs.Rendering.{spelled, factLine, variableLines, operatorLines, render}
@@ -89,12 +89,13 @@ state-from xs vs s ws s1 e sizes valid h =
     let s-is : a4 ≡ s1 = cc in
     let made : ws ≡ q .records = sym zs-is ∙ q .made in
     h ys (record {
-        sizes = ap domains made ∙ q .sizes;
-        lines = q .lines;
-        same = q .same;
-        count = q .count;
-        valid = q .valid;
-        bytes = l1 .bytes ∙ ap (before (codes "0")) (l2 .bytes ∙ ap (before (codes "begin_state")) (q .bytes ∙ ap (λ z. spelled (map (λ v. decimal (v .initial)) ys) ++ z) (l4 .bytes ∙ ap (λ z. before (codes "end_state") (z .rest)) s-is))) }))))))
+      sizes = ap domains made ∙ q .sizes;
+      lines = q .lines;
+      same = q .same;
+      count = q .count;
+      valid = q .valid;
+      bytes = l1 .bytes ∙ ap (before (codes "0")) (l2 .bytes ∙ ap (before (codes "begin_state")) (q .bytes ∙ ap (λ z. spelled (map (λ v. decimal (v .initial)) ys) ++ z) (l4 .bytes ∙ ap (λ z. before (codes "end_state") (z .rest)) s-is)));
+    }))))))
 
 record Goal (vs : List Variable) (room : ℕ) (s s1 : Place) (gs : List Entry) : Type 0 where
   pub fit : All (FactFits (domains vs)) gs
@@ -122,11 +123,12 @@ goal-from vs room s gs s1 e =
     let fit : All (FactFits (domains vs)) gs = rw xs-is at (g .fit) in
     let distinct : Distinct gs = rw xs-is at (g .distinct) in
     record {
-        fit = fit;
-        distinct = distinct;
-        few = omega (arith, l2 .high);
-        stored = omega (arith, g .free);
-        bytes = l1 .bytes ∙ ap (before (codes "begin_goal")) (b2 ∙ ap (before (decimal (length gs))) (b3 ∙ ap (λ z. spelled (map factLine gs) ++ z) (l4 .bytes ∙ ap (λ z. before (codes "end_goal") (z .rest)) s-is))) })))))
+      fit = fit;
+      distinct = distinct;
+      few = omega (arith, l2 .high);
+      stored = omega (arith, g .free);
+      bytes = l1 .bytes ∙ ap (before (codes "begin_goal")) (b2 ∙ ap (before (decimal (length gs))) (b3 ∙ ap (λ z. spelled (map factLine gs) ++ z) (l4 .bytes ∙ ap (λ z. before (codes "end_goal") (z .rest)) s-is)));
+    })))))
 
 ended-parts : {A : Type 0} (a b : A) (s s1 : Place) → ended a s ≡ read b s1 → (a ≡ b) × (s .rest ≡ [])
 ended-parts {A} a b s s1 e = by (eqb (length (s .rest)) 0) refl e
@@ -158,22 +160,24 @@ whole-made room text n m vs ws xs ys gs b os a1 a2 a3 a4 a5 a6 a7 a8 small b0 b1
     let es : length (gs ++ joined entriesOf os) ≤ room .entries = rw (ops .entries) at (ops .stored) in
     let tail : a5 .rest ≡ operatorsBytes os [] = b5 ∙ (ap (λ z. before (decimal z) (a6 .rest)) m-is ∙ ap (before (decimal (length os))) (ops .bytes ∙ ap (λ z. spelled (joined operatorLines os) ++ z) (b7 ∙ ap (before (codes "0")) b8))) in
     let all : a1 .rest ≡ before (decimal (length ys)) (spelled (joined variableLines ys) ++ stateBytes ys (goalBytes gs (operatorsBytes os []))) =
-        b1 ∙ (ap (λ z. before (decimal z) (a2 .rest)) n-is ∙ ap (before (decimal (length ys))) (many .bytes ∙ (ap (λ z. spelled z ++ a3 .rest) (sym (state .lines)) ∙ ap (λ z. spelled (joined variableLines ys) ++ z) (state .bytes ∙ ap (stateBytes ys) (goal .bytes ∙ ap (goalBytes gs) tail))))) in
+    b1 ∙ (ap (λ z. before (decimal z) (a2 .rest)) n-is ∙ ap (before (decimal (length ys))) (many .bytes ∙ (ap (λ z. spelled z ++ a3 .rest) (sym (state .lines)) ∙ ap (λ z. spelled (joined variableLines ys) ++ z) (state .bytes ∙ ap (stateBytes ys) (goal .bytes ∙ ap (goalBytes gs) tail))))) in
     record {
-        valid = record {
-            some = omega arith;
-            few = omega arith;
-            variables = state .valid;
-            goal = fit;
-            few-goals = omega (arith, goal .few);
-            distinct = goal .distinct;
-            listed = omega arith;
-            operators = valids;
-            stored = omega arith };
-        variables = omega (arith, many .free);
-        operators = omega (arith, ops .free);
-        entries = es;
-        bytes = b0 ∙ (ap headingBytes all ∙ sym (text-bytes t)) }
+      valid = record {
+        some = omega arith;
+        few = omega arith;
+        variables = state .valid;
+        goal = fit;
+        few-goals = omega (arith, goal .few);
+        distinct = goal .distinct;
+        listed = omega arith;
+        operators = valids;
+        stored = omega arith;
+      };
+      variables = omega (arith, many .free);
+      operators = omega (arith, ops .free);
+      entries = es;
+      bytes = b0 ∙ (ap headingBytes all ∙ sym (text-bytes t));
+    }
   where
     length-domainsOf : (ys : List NamedVariable) → length (domainsOf ys) ≡ length ys
     length-domainsOf [] = refl
@@ -203,4 +207,4 @@ whole-from room text held s1 small e h =
     let rest : a8 .rest ≡ a7 .rest = ap (λ z. z .rest) out in
     let z = ended-parts _ held a9 s1 f9 in
     h (record { variables = ys; goal = gs; operators = os })
-        (whole-made room text n m vs ws xs ys gs b1 os a1 a2 a3 a4 a5 a6 a8 a9 small (heading-from (top text) u1 a1 e1) (l2 .line .bytes) (l2 .low) (l2 .high) many state goal (l6 .line .bytes) (l6 .high) ops (rest ∙ l9 .bytes) (z .1))))))))))))))
+    (whole-made room text n m vs ws xs ys gs b1 os a1 a2 a3 a4 a5 a6 a8 a9 small (heading-from (top text) u1 a1 e1) (l2 .line .bytes) (l2 .low) (l2 .high) many state goal (l6 .line .bytes) (l6 .high) ops (rest ∙ l9 .bytes) (z .1))))))))))))))

@@ -16,10 +16,10 @@ use Rattle.tables.specs.declared.records.Operator.{Operator}
 use Rattle.tables.specs.declared.records.Entry.{Entry}
 use Rattle.tables.specs.Rules.{Distinct}
 use Rattle.lines.specs.Reading.{Place, Step, read, andThen, wordOf, numberFrom, belowFrom, turns, top}
-use Rattle.format.specs.declared.entries.Shape.the-variants.{Fact}
-use Rattle.format.specs.Variables.{variablesOf, initialsOf}
-use Rattle.format.specs.Entries.{groupOf}
-use Rattle.format.specs.Operators.{operatorsOf, operatorMore, inside}
+use Rattle.sections.specs.declared.entries.Shape.the-variants.{Fact}
+use Rattle.sections.specs.Variables.{variablesOf, initialsOf}
+use Rattle.sections.specs.Entries.{groupOf}
+use Rattle.sections.specs.Operators.{operatorsOf, operatorMore, inside}
 use Rattle.format.specs.Whole.{Held, Room, headingOf, stateOf, goalOf, ended, bodyOf, wholeOf}
 use Rattle.reader.specs.Named.{NamedVariable, NamedOperator, NamedTask, ValidVariable, ValidOperator, FactFits, Valid, domainsOf, entriesOf, allEntries}
 use Rattle.reader.specs.Rendering.{spelled, factLine, variableLines, operatorLines, render}
@@ -81,13 +81,15 @@ state-reads text vs s xs r are valid st e =
     with-it (variables.initials-reads text xs [] vs s2 r3 are valid refl t2) (λ q.
     let w4 = word-reads (codes "end_state") (q .to) r (q .rest) refl in
     record {
-        records = q .records;
-        step = record {
-            to = past (q .to) (codes "end_state") r;
-            reads = rw (w1, w2, q .reads, w4);
-            rest = refl;
-            stands = stands-past text (q .to) (codes "end_state") r (q .stands) (q .rest) };
-        are = q .are })
+      records = q .records;
+      step = record {
+        to = past (q .to) (codes "end_state") r;
+        reads = rw (w1, w2, q .reads, w4);
+        rest = refl;
+        stands = stands-past text (q .to) (codes "end_state") r (q .stands) (q .rest);
+      };
+      are = q .are;
+    })
 
 goal-reads : (text : List ℕ) (vs : List Variable) (room : ℕ) (s : Place) (gs : List Entry) (r : List ℕ) → length vs ≤ 32 → ((v : ℕ) → getD (domains vs) v 0 ≤ 255) → All (FactFits (domains vs)) gs → Distinct gs → length gs ≤ length vs → length gs ≤ room
     → Stands text s → s .rest ≡ goalBytes gs r → Reads text (goalOf vs room s) gs r
@@ -104,10 +106,11 @@ goal-reads text vs room s gs r few small fit distinct count free st e =
     with-it (group-reads text Fact vs room 0 gs [] s2 r3 few small fit (omega arith) distinct (omega arith) refl t2) (λ g.
     let w4 = word-reads (codes "end_goal") (g .to) r (g .rest) refl in
     record {
-        to = past (g .to) (codes "end_goal") r;
-        reads = rw (w1, w2, g .reads, w4);
-        rest = refl;
-        stands = stands-past text (g .to) (codes "end_goal") r (g .stands) (g .rest) })
+      to = past (g .to) (codes "end_goal") r;
+      reads = rw (w1, w2, g .reads, w4);
+      rest = refl;
+      stands = stands-past text (g .to) (codes "end_goal") r (g .stands) (g .rest);
+    })
 
 -- the operators' lines and the last line
 record OperatorsReads (text : List ℕ) (vs : List Variable) (rooms room : ℕ) (gs : List Entry) (s : Place) (os : List NamedOperator) : Type 0 where
@@ -134,15 +137,16 @@ operators-reads text vs rooms room gs s os few small free listed stored valid st
     let s3 = inside None (q .to) in
     let w3 = word-reads (codes "0") s3 [] (q .rest) refl in
     record {
-        records = q .records;
-        counted = s1;
-        read-count = w1;
-        listed = s3;
-        reads = rw (q .reads);
-        last = past s3 (codes "0") [];
-        read-last = w3;
-        rest = refl;
-        are = q .are })
+      records = q .records;
+      counted = s1;
+      read-count = w1;
+      listed = s3;
+      reads = rw (q .reads);
+      last = past s3 (codes "0") [];
+      read-last = w3;
+      rest = refl;
+      are = q .are;
+    })
 
 pub domains-at : (text : List ℕ) (xs : List NamedVariable) (ws : List Variable) → variables.AllIs text xs ws → domains ws ≡ domainsOf xs
 domains-at text [] [] h = refl
@@ -200,7 +204,8 @@ whole-reads room t valid enough-v enough-o enough-e =
     with-it (goal-reads text (c .records) (room .entries) (c .step .to) (t .goal) r4 (omega (arith, valid .few)) small fit (valid .distinct) (omega (arith, valid .few-goals)) (omega arith) (c .step .stands) (c .step .rest)) (λ d.
     with-it (operators-reads text (c .records) (room .operators) (room .entries) (t .goal) (d .to) (t .operators) (omega (arith, valid .few)) small enough-o (valid .listed) (omega arith) valids (d .stands) (d .rest)) (λ o.
     record {
-        held = record { variables = c .records; goals = length (t .goal); operators = o .records; entries = allEntries t };
-        to = o .last;
-        reads = rw (a .reads, w1, b .reads, c .step .reads, d .reads, o .read-count, o .reads, o .read-last, o .rest);
-        states = record { variables = c .are; goals = refl; operators = o .are; entries = refl } })))))
+      held = record { variables = c .records; goals = length (t .goal); operators = o .records; entries = allEntries t };
+      to = o .last;
+      reads = rw (a .reads, w1, b .reads, c .step .reads, d .reads, o .read-count, o .reads, o .read-last, o .rest);
+      states = record { variables = c .are; goals = refl; operators = o .are; entries = refl };
+    })))))

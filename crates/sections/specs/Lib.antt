@@ -1,0 +1,4 @@
+pub mod Variables
+pub mod Entries
+pub mod Operators
+pub mod Views
