@@ -17,8 +17,8 @@ use Rattle.task.specs.Model.{Model, IsState, AllHold, Admits, AllAdmit, updated
 use Rattle.tables.proofs.Lists.{domain-at}
 use Rattle.abstraction.specs.declared.abstract_task.AbstractTask.{AbstractTask}
 use Rattle.abstraction.specs.Projected.{keptAt, cutDown, cutAction, projected}
-use Rattle.abstraction.specs.Parts.{HoldsAt, AdmitsAt, valueAfter, orElse, untouched, PartOf}
-use Rattle.abstraction.specs.AbstractTasks.{abstractOf, Stands}
+use Rattle.abstraction.specs.Parts.{MayFollow, HoldsAt, AdmitsAt, valueAfter, orElse, untouched, PartOf}
+use Rattle.abstraction.specs.AbstractTasks.{abstractOf, Stands, MayLeadTo}
 use Rattle.abstraction.specs.Ranks.{product, rank}
 use Rattle.abstraction.specs.lawful.Cutting.{place-found}
 use Rattle.abstraction.specs.lawful.Projecting.{operator-cut}
@@ -175,3 +175,13 @@ rank-step A s o i r y st h is l e f =
     let d = rank-lt (P .domains) b (state-fit P b bs) in
     let g = st .few in
     (q, omega arith)
+
+follows : (required value : Option ℕ) (x : ℕ) → Admits x required → MayFollow required value (orElse value x)
+follows required None x h = h
+follows required (Some y) x h = refl
+
+-- an operator leads only to states whose values may follow it
+pub leads-only : (A : AbstractTask) (s : List ℕ) (o : ℕ) → Stands A → IsState (abstractOf A) s → Applies (abstractOf A) s o → MayLeadTo A o (applied (abstractOf A) s o)
+leads-only A s o st is a i h =
+    let p = getD (A .parts) (8 * o + i) untouched in
+    subst (MayFollow (p .required) (p .value)) (sym (applied-at A s o i st (applies-number (abstractOf A) s o a) is h)) (follows (p .required) (p .value) (getD s i 0) (applies-at A s o i st h a))

@@ -9,7 +9,7 @@ use Rattle.abstraction.specs.declared.abstract_task.AbstractTask.{AbstractTask
 use Rattle.abstraction.specs.Patterns.{IsPattern}
 use Rattle.abstraction.specs.Projected.{sizes, projected}
 use Rattle.abstraction.specs.Ranks.{product}
-use Rattle.abstraction.specs.Parts.{untouched, PartOf, GoalPart}
+use Rattle.abstraction.specs.Parts.{untouched, MayFollow, PartOf, GoalPart}
 
 -- the abstract task itself
 abbrev pub abstractOf : AbstractTask → Model
@@ -28,3 +28,8 @@ pub record Stands (A : AbstractTask) : Type 0 where
   pub goal : (i : ℕ) → i < length (A .pattern .now) → GoalPart (abstractOf A .goal) i (getD (A .goal) i None)
   pub parts : (o i : ℕ) → o < length (abstractOf A .operators) → i < length (A .pattern .now)
       → PartOf (operator (abstractOf A) o) i (getD (abstractOf A .domains) i 0) (getD (A .parts) (8 * o + i) untouched)
+
+-- each place may have its value in s after operator o
+abbrev pub MayLeadTo : AbstractTask → ℕ → List ℕ → Type 0
+MayLeadTo A o s = (i : ℕ) → i < length (A .pattern .now)
+    → MayFollow (getD (A .parts) (8 * o + i) untouched .required) (getD (A .parts) (8 * o + i) untouched .value) (getD s i 0)

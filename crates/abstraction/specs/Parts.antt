@@ -44,6 +44,11 @@ abbrev pub orElse : Option ℕ → ℕ → ℕ
 orElse None x = x
 orElse (Some y) x = y
 
+-- a value that the variable may have after the operator: the one that it sets, or, if it sets none, one that it admits
+abbrev pub MayFollow : Option ℕ → Option ℕ → ℕ → Type 0
+MayFollow required (Some y) x = x ≡ y
+MayFollow required None x = Admits x required
+
 -- the part is the operator cut down to the variable v, which has d values
 pub record PartOf (o : Action) (v d : ℕ) (p : OperatorPart) : Type 0 where
   pub needed : (x : ℕ) → HoldsAt v x (o .conditions) → AdmitsAt v x (o .effects) → Admits x (p .required)

@@ -7,8 +7,8 @@ ghost use Rattle.std.specs.declared.option.Option.the-variants.{Some};
 ghost use Rattle.std.specs.Orderings.{When};
 ghost use Rattle.task.specs.Model.{IsState, IsGoal, Admits};
 ghost use Rattle.abstraction.specs.Ranks.{product};
-ghost use Rattle.abstraction.specs.Parts.{orElse};
-ghost use Rattle.abstraction.specs.AbstractTasks.{abstractOf, Stands};
+ghost use Rattle.abstraction.specs.Parts.{MayFollow, orElse};
+ghost use Rattle.abstraction.specs.AbstractTasks.{abstractOf, MayLeadTo, Stands};
 ghost use Rattle.abstraction.specs.Steps.{Span, StateOf, SuccessorOf};
 use super::abstract_task::AbstractTask;
 use super::part::OperatorPart;
@@ -30,6 +30,16 @@ fn value_after(part: OperatorPart, before: u8) -> u8
     match part.value {
         Some(value) => value,
         None => before,
+    }
+}
+
+// Whether a variable may have that value after a step.
+fn may_follow(part: OperatorPart, value: u8) -> bool
+    ensures { λ r. ⌜ When r (MayFollow (part .required) (part .value) value) (MayFollow (part .required) (part .value) value → ⊥) ⌝ }
+{
+    match part.value {
+        Some(after) => value == after,
+        None => admits(part.required, value),
     }
 }
 
@@ -84,6 +94,22 @@ impl<'t, 'a, 'p> AbstractTask<'t, 'a, 'p> {
     {
         for place in 0..self.pattern.len() {
             if !admits(self.goal[place], state[place]) {
+                return false;
+            }
+        }
+        true
+    }
+
+    // Whether each variable may have its value in the abstract state after the operator. If not, the operator leads to it from
+    // nowhere, which most often shows at once.
+    pub fn may_lead_to(&self, operator: usize, state: &[u8]) -> bool
+        requires stands { ⌜ Stands (now self) ⌝ }
+        requires number { ⌜ operator < length (abstractOf (now self) .operators) ⌝ }
+        requires state { ⌜ IsState (abstractOf (now self)) (now state) ⌝ }
+        ensures { λ r. ⌜ When r (MayLeadTo (now (self .entry)) operator (now (state .entry))) (MayLeadTo (now (self .entry)) operator (now (state .entry)) → ⊥) ⌝ }
+    {
+        for place in 0..self.pattern.len() {
+            if !may_follow(self.parts[8 * operator + place], state[place]) {
                 return false;
             }
         }

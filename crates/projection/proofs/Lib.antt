@@ -1,5 +1,6 @@
 pub mod Answering
 pub mod Distances
+pub mod Example
 pub mod Lowering
 pub mod Relaxing
 pub mod Running

@@ -82,6 +82,24 @@ relax-keeps P row C r i d t t' q q' c h e run rel o out done = record {
       (run .steps s j st ap' (quiet .0));
 }
 
+-- an operator that leads to the rank from nowhere
+pub skip-keeps : (P : Model) (row : List ℕ) (r i : ℕ) (t : List ℕ) (q : Queue RankEntry) → Running P row (LeftFrom r i) t q
+    → ((s : List ℕ) → IsState P s → Applies P s i → rank (P .domains) (applied P s i) ≡ r → ⊥) → Running P row (LeftFrom r (i + 1)) t q
+skip-keeps P row r i t q run none = record {
+  «open» = run .«open»;
+  long = run .long;
+  small = run .small;
+  goal = run .goal;
+  sound = run .sound;
+  steps = λ s j st ap' n. ⊎-elim
+      (λ x. ⊎-elim
+      (λ (same : i ≡ j). absurd (none s st (subst (λ z. Applies P s z) (sym same) ap') (ap (λ z. rank (P .domains) (applied P s z)) same ∙ x .0)))
+      (λ (apart : i ≡ j → ⊥). inl (x .0, (let g = x .1 in omega arith)))
+      (cases-eq i j))
+      (λ x. inr x)
+      (run .steps s j st ap' n);
+}
+
 pub expand-start : (P : Model) (row : List ℕ) (r : ℕ) (t : List ℕ) (q q' : Queue RankEntry) → Running P row NoneLeft t q → Changed rankItem q q' r None → Rows q q' → Sound rankItem rankNoLater q'
     → Running P row (LeftFrom r 0) t q'
 expand-start P row r t q q' run c rows s = record {

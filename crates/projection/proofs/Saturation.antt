@@ -90,7 +90,7 @@ held-more P table o i r h h' s w ap' rk e b =
       reached = subst (λ z. (z ≡ 0) ⊎ ((m : ℕ) × (n : ℕ) × StepBetween P table o m n × (m ≡ n + z))) (sym same) (b .reached);
     }
 
-missing : (d : ℕ) (x : ℕ) → distance d ≡ Some x → (d ≡ 4294967295 → ⊥) × (d ≡ x)
+pub missing : (d : ℕ) (x : ℕ) → distance d ≡ Some x → (d ≡ 4294967295 → ⊥) × (d ≡ x)
 missing d x e = ⊎-elim
     (λ (a : d ≡ 4294967295). absurd (none-some (sym (cond-true (eqb d 4294967295) None (Some d) (eq-eqb d 4294967295 a)) ∙ e)))
     (λ (n : d ≡ 4294967295 → ⊥). (n, some-same (sym (present d n) ∙ e)))

@@ -57,8 +57,10 @@ fn expand(
     let digits = abstract_task.state_of(rank);
     let state = &digits[0..abstract_task.pattern.len()];
     for operator in 0..row.len() {
-        let distance = table[rank as usize].saturating_add(row[operator]);
-        relax(table, queue, abstract_task, operator, state, 0, 0, distance);
+        if abstract_task.may_lead_to(operator, state) {
+            let distance = table[rank as usize].saturating_add(row[operator]);
+            relax(table, queue, abstract_task, operator, state, 0, 0, distance);
+        }
     }
 }
 

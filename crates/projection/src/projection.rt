@@ -1,5 +1,6 @@
 ghost use mathlib.Core.Path.{_≡_};
 ghost use Rattle.projection.specs.Distances.{OneMeaning};
+ghost use Rattle.projection.specs.Example.{SofaNumbers};
 ghost use Rattle.projection.specs.Projection.{Unset, Holds, Sets, Answers};
 ghost use Rattle.projection.specs.lawful.Projection.{projection-laws};
 use super::compute::compute;
@@ -38,6 +39,7 @@ impl<'p, 't, 'e, 'q> Projection<'p, 't, 'e, 'q> {
         ensures entries { λ r. ⌜ now (r .entries) ≡ now (entries .entry) ⌝ }
         ensures places { λ r. ⌜ now (r .places) ≡ now (places .entry) ⌝ }
         ensures meaning { λ _. ⌜ OneMeaning ⌝ }
+        ensures example { λ _. ⌜ SofaNumbers ⌝ }
     {
         Projection {
             ready: false,
