@@ -3,7 +3,7 @@ use mathlib.Core.Path.{_≡_}
 use mathlib.Core.List.{List, [], _∷_}
 use Prim.Native.Nat.{ℕ}
 use Rattle.std.specs.declared.option.Option.the-variants.{Some, None}
-use Rattle.task.specs.declared.records.Entry.{Entry}
+use Rattle.tables.specs.declared.records.Entry.{Entry}
 use Rattle.task.specs.Model.{Model, prices}
 use Rattle.estimator.specs.Price.{Shares}
 use Rattle.abstraction.specs.Patterns.{abstraction}
