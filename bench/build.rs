@@ -10,9 +10,7 @@ fn main() {
     }
     let path = env::var("VULCANFILE_LIB")
         .expect("feature `ours` needs VULCANFILE_LIB, the path of the static library libcapi.a");
-    let path = Path::new(&path)
-        .canonicalize()
-        .unwrap_or_else(|e| panic!("VULCANFILE_LIB = {path}: {e}"));
+    let path = Path::new(&path).canonicalize().unwrap_or_else(|e| panic!("VULCANFILE_LIB = {path}: {e}"));
     let folder = path.parent().expect("a file has a folder");
     let stem = path.file_stem().and_then(|s| s.to_str()).unwrap_or("");
     let name = stem.strip_prefix("lib").expect("VULCANFILE_LIB names no lib*.a");

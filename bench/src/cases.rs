@@ -3,7 +3,7 @@
 use crate::damage::{damage_model, damage_text};
 use crate::estimator::{Blind, Estimator, Projection, MAX_RANKS};
 use crate::fault::{Cause, TextFault};
-use crate::generate::model;
+use crate::generate::{any_shape, model_of, Shape};
 use crate::ours::{Counts, ProjectionNumbers, SearchNumbers};
 use crate::random::Random;
 use crate::search::{Outcome, Search};
@@ -18,10 +18,11 @@ pub struct Case {
     pub random: Random,
 }
 
-/// The text of a seed; so many in a hundred are damaged.
-pub fn case(seed: u64, damaged: u64) -> Case {
+/// The text of a seed, of a shape of its own or of the given one; so many in a hundred are damaged.
+pub fn case(seed: u64, shape: Option<Shape>, damaged: u64) -> Case {
     let mut random = Random::new(seed);
-    let (shape, mut model) = model(&mut random);
+    let shape = shape.unwrap_or_else(|| any_shape(&mut random));
+    let mut model = model_of(shape, &mut random);
     let mut origin = format!("{shape:?}");
     let mut text;
     if (random.below(100) as u64) < damaged {
@@ -54,8 +55,7 @@ pub fn search_numbers(task: &Task, capacity: usize, expansions: u64) -> Result<S
     let Ok(go_ahead) = search.start(&mut Blind, &mut row) else {
         return Err(u64::from(Cause::Room.number()));
     };
-    let report =
-        search.advance(&mut Blind, go_ahead, expansions).expect("a started search is running");
+    let report = search.advance(&mut Blind, go_ahead, expansions).expect("a started search is running");
     let (outcome, find) = match report.outcome {
         Outcome::More(_) => (0, (0, 0)),
         Outcome::Found(find) => (1, (u64::from(find.node), u64::from(find.cost))),

@@ -10,7 +10,7 @@ pub fn damage_text(random: &mut Random, text: &mut Vec<u8>) -> &'static str {
         return "started anew";
     }
     type Way = (&'static str, fn(&mut Random, &mut Vec<u8>));
-    const WAYS: [Way; 20] = [
+    const WAYS: [Way; 22] = [
         ("byte changed", |random, text| {
             let at = random.below(text.len());
             text[at] = any_byte(random);
@@ -63,12 +63,17 @@ pub fn damage_text(random: &mut Random, text: &mut Vec<u8>) -> &'static str {
         ("cut at a line's end", |random, text| {
             on_lines(text, |lines| lines.truncate(random.below(lines.len() + 1)))
         }),
+        ("cut after an odd byte", |random, text| {
+            text.truncate(random.below(text.len()));
+            text.push(*random.pick(b"\r\t\0\x7f\xff"));
+        }),
         ("last byte dropped", |_, text| {
             text.pop();
         }),
         ("bytes after", |random, text| {
             let tails = [&b"\n"[..], b" ", b"0", b"0\n", b"\r\n", b"\0", b"end\n\n", b"\xff"];
-            text.extend_from_slice(*random.pick(&tails));
+            let tail = *random.pick(&tails);
+            text.extend_from_slice(tail);
         }),
         ("number off by one", |random, text| {
             on_number(random, text, |random, word| {
@@ -79,18 +84,47 @@ pub fn damage_text(random: &mut Random, text: &mut Vec<u8>) -> &'static str {
         ("number replaced", |random, text| {
             on_number(random, text, |random, _| {
                 let numbers = [
-                    "0", "1", "-1", "2", "31", "32", "33", "254", "255", "256", "257", "65535", "65536",
-                    "999999999", "1000000000", "4294967296", "18446744073709551616", "-0", "-2", "+1",
-                    "00", "01", "-01", "0000000000", "1.0", "1e3", "0x1", "--1", "-", "", " ", "1 ", " 1",
+                    "0",
+                    "1",
+                    "-1",
+                    "2",
+                    "31",
+                    "32",
+                    "33",
+                    "254",
+                    "255",
+                    "256",
+                    "257",
+                    "65535",
+                    "65536",
+                    "999999999",
+                    "1000000000",
+                    "4294967296",
+                    "18446744073709551616",
+                    "-0",
+                    "-2",
+                    "+1",
+                    "00",
+                    "01",
+                    "-01",
+                    "0000000000",
+                    "1.0",
+                    "1e3",
+                    "0x1",
+                    "--1",
+                    "-",
+                    "",
+                    " ",
+                    "1 ",
+                    " 1",
                 ];
                 random.pick(&numbers).to_string()
             })
         }),
         ("digits appended", |random, text| {
             on_number(random, text, |random, word| {
-                let digits: String = (0..random.between(1, 12))
-                    .map(|_| char::from(b'0' + random.below(10) as u8))
-                    .collect();
+                let digits: String =
+                    (0..random.between(1, 12)).map(|_| char::from(b'0' + random.below(10) as u8)).collect();
                 format!("{word}{digits}")
             })
         }),
@@ -102,6 +136,17 @@ pub fn damage_text(random: &mut Random, text: &mut Vec<u8>) -> &'static str {
         ("number more", |random, text| {
             on_number(random, text, |random, word| {
                 random.pick(&[format!("{word} {word}"), format!("{word} 0"), format!("0 {word}")]).clone()
+            })
+        }),
+        ("two in a line", |random, text| {
+            on_number_line(random, text, 2, |random, words| {
+                for word in words.iter_mut() {
+                    if random.chance(2, 3) {
+                        let odd =
+                            ["-1", "255", "99999", "1234567890", "0123456789", "x", "00", "-0", "", "\t"];
+                        *word = random.pick(&odd).to_string();
+                    }
+                }
             })
         }),
         ("carriage returns", |random, text| {
@@ -138,8 +183,7 @@ pub fn damage_model(random: &mut Random, model: &mut Model) -> &'static str {
         0 => {
             if !model.goal.is_empty() {
                 let again = *random.pick(&model.goal);
-                let value = if random.chance(1, 2) { again.1 } else { 0 };
-                model.goal.push((again.0, value));
+                model.goal.push((again.0, *random.pick(&[again.1, 0, -1, 255])));
             }
             "goal variable twice"
         }
@@ -147,7 +191,7 @@ pub fn damage_model(random: &mut Random, model: &mut Model) -> &'static str {
             on_operator(random, model, |random, operator| {
                 if !operator.conditions.is_empty() {
                     let again = *random.pick(&operator.conditions);
-                    operator.conditions.push(again);
+                    operator.conditions.push((again.0, *random.pick(&[again.1, 0, -1, 255])));
                 }
             });
             "condition twice"
@@ -156,7 +200,7 @@ pub fn damage_model(random: &mut Random, model: &mut Model) -> &'static str {
             on_operator(random, model, |random, operator| {
                 if !operator.effects.is_empty() {
                     let again = *random.pick(&operator.effects);
-                    operator.effects.push(again);
+                    operator.effects.push((again.0, again.1, *random.pick(&[again.2, 0, -1, 255])));
                 }
             });
             "effect twice"
@@ -221,11 +265,7 @@ pub fn damage_model(random: &mut Random, model: &mut Model) -> &'static str {
     }
 }
 
-fn on_operator(
-    random: &mut Random,
-    model: &mut Model,
-    change: impl FnOnce(&mut Random, &mut ModelOperator),
-) {
+fn on_operator(random: &mut Random, model: &mut Model, change: impl FnOnce(&mut Random, &mut ModelOperator)) {
     if !model.operators.is_empty() {
         let at = random.below(model.operators.len());
         change(random, &mut model.operators[at]);
@@ -249,27 +289,38 @@ fn on_lines(text: &mut Vec<u8>, change: impl FnOnce(&mut Vec<Vec<u8>>)) {
     *text = lines.concat();
 }
 
-/// Replaces a number of a line that holds only numbers; such lines are most of a text, so that the names
-/// do not take most of the damage.
-fn on_number(
+/// Replaces a number of a line that holds only numbers.
+fn on_number(random: &mut Random, text: &mut Vec<u8>, replace: impl FnOnce(&mut Random, &str) -> String) {
+    on_number_line(random, text, 1, |random, words| {
+        let word = random.below(words.len());
+        words[word] = replace(random, &words[word]);
+    });
+}
+
+/// Changes the words of a line that holds only numbers, at least so many; names take no damage here.
+fn on_number_line(
     random: &mut Random,
     text: &mut Vec<u8>,
-    replace: impl FnOnce(&mut Random, &str) -> String,
+    least: usize,
+    change: impl FnOnce(&mut Random, &mut Vec<String>),
 ) {
-    let is_number_line = |line: &[u8]| {
-        line.len() > 1 && line.iter().all(|byte| byte.is_ascii_digit() || b" -\n".contains(byte))
+    let numbers = |line: &[u8]| {
+        let only = line.iter().all(|byte| byte.is_ascii_digit() || b" -\n".contains(byte));
+        if only && line.len() > 1 {
+            line.split(|&byte| byte == b' ').count()
+        } else {
+            0
+        }
     };
     on_lines(text, |lines| {
-        let places: Vec<usize> = (0..lines.len()).filter(|&i| is_number_line(&lines[i])).collect();
+        let places: Vec<usize> = (0..lines.len()).filter(|&i| numbers(&lines[i]) >= least).collect();
         if places.is_empty() {
             return;
         }
         let place = *random.pick(&places);
         let line = String::from_utf8_lossy(&lines[place]).into_owned();
-        let mut words: Vec<String> =
-            line.trim_end_matches('\n').split(' ').map(str::to_string).collect();
-        let word = random.below(words.len());
-        words[word] = replace(random, &words[word]);
+        let mut words: Vec<String> = line.trim_end_matches('\n').split(' ').map(str::to_string).collect();
+        change(random, &mut words);
         let mut line = words.join(" ").into_bytes();
         line.push(b'\n');
         lines[place] = line;

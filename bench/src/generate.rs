@@ -1,7 +1,10 @@
 //! Makes tasks.
 //!
 //! A [`Model`] is a task as data, or nearly one: its numbers are not tested, so a damaged model can be
-//! written as a text too. [`model`] makes one from a seed, of a [`Shape`] chosen by the seed.
+//! written as a text too. [`model_of`] makes one of a [`Shape`].
+
+// Rooms, tiles and variables are numbers here, used for more than one list.
+#![allow(clippy::needless_range_loop)]
 
 use crate::random::Random;
 use std::collections::HashSet;
@@ -120,6 +123,29 @@ impl Model {
         self.goal.push((variable as i64, value as i64));
     }
 
+    /// The state after up to so many operators, each chosen among those that apply.
+    fn walk(&self, random: &mut Random, steps: usize) -> Vec<i64> {
+        let mut state: Vec<i64> = self.variables.iter().map(|variable| variable.initial).collect();
+        for _ in 0..random.between(0, steps) {
+            let holds = |variable: i64, value: i64| value == -1 || state[variable as usize] == value;
+            let applying: Vec<&ModelOperator> = self
+                .operators
+                .iter()
+                .filter(|operator| {
+                    operator.conditions.iter().all(|&(v, x)| holds(v, x))
+                        && operator.effects.iter().all(|&(v, x, _)| holds(v, x))
+                })
+                .collect();
+            if applying.is_empty() {
+                break;
+            }
+            for &(v, _, after) in &random.pick(&applying).effects {
+                state[v as usize] = after;
+            }
+        }
+        state
+    }
+
     /// Empties every name.
     pub fn forget_names(&mut self) {
         for variable in &mut self.variables {
@@ -150,6 +176,10 @@ pub enum Shape {
     Furniture,
     /// Thousands to tens of thousands of reachable states.
     Large,
+    /// More variables than two patterns hold.
+    Wide,
+    /// Operators that matter to both patterns.
+    Shared,
     /// Prices of 0 for the most part.
     Zeros,
     /// Steps that cannot be taken back.
@@ -175,10 +205,12 @@ pub enum Shape {
 }
 
 impl Shape {
-    pub const ALL: [Shape; 14] = [
+    pub const ALL: [Shape; 16] = [
         Shape::Small,
         Shape::Furniture,
         Shape::Large,
+        Shape::Wide,
+        Shape::Shared,
         Shape::Zeros,
         Shape::DeadEnds,
         Shape::Unrequired,
@@ -191,14 +223,23 @@ impl Shape {
         Shape::Names,
         Shape::Limits,
     ];
+
+    /// The shape of a name.
+    pub fn named(name: &str) -> Option<Shape> {
+        Shape::ALL.into_iter().find(|shape| format!("{shape:?}").eq_ignore_ascii_case(name))
+    }
 }
 
-/// A task of a shape chosen at random; small ones are the most frequent.
-pub fn model(random: &mut Random) -> (Shape, Model) {
-    let shape = if random.chance(1, 4) { Shape::Small } else { *random.pick(&Shape::ALL) };
-    (shape, model_of(shape, random))
+/// A shape chosen at random; small tasks are the most frequent.
+pub fn any_shape(random: &mut Random) -> Shape {
+    match random.below(8) {
+        0 | 1 => Shape::Small,
+        2 => Shape::Shared,
+        _ => *random.pick(&Shape::ALL),
+    }
 }
 
+/// A task of a shape.
 pub fn model_of(shape: Shape, random: &mut Random) -> Model {
     let mut model = match shape {
         Shape::Small => {
@@ -207,6 +248,11 @@ pub fn model_of(shape: Shape, random: &mut Random) -> Model {
         }
         Shape::Furniture => furniture(random),
         Shape::Large => large(random),
+        Shape::Wide => {
+            let ranges = Free { variables: (9, 32), domain: (1, 5), operators: (20, 250), ..Free::NORMAL };
+            free(random, &ranges)
+        }
+        Shape::Shared => shared(random),
         Shape::Zeros => free(random, &Free { prices: Prices::Zeros, ..Free::NORMAL }),
         Shape::DeadEnds => free(random, &Free { one_way: true, ..Free::NORMAL }),
         Shape::Unrequired => free(random, &Free { unrequired: (3, 4), ..Free::NORMAL }),
@@ -287,42 +333,49 @@ fn free(random: &mut Random, habits: &Free) -> Model {
         model.add_variable(&format!("v{v}"), domain, random.below(domain));
     }
     let mut order: Vec<usize> = (0..variables).collect();
-
-    random.shuffle(&mut order);
-    let goal = random.between(0, variables.min(4));
-    for &v in &order[..goal] {
-        let value = random.below(model.domain(v));
-        model.add_goal(v, value);
-    }
-
+    // Most operators are made to apply to a state that the ones before them reach, so that there are
+    // more than a few reachable states.
+    let initial: Vec<usize> = model.variables.iter().map(|v| v.initial as usize).collect();
+    let mut reached = vec![initial];
     for number in 0..random.between(habits.operators.0, habits.operators.1) {
         random.shuffle(&mut order);
-        let conditions = random.below(variables.min(4));
-        let most_effects = if random.chance(1, 4) { 4 } else { 2 };
-        let least_effects = usize::from(!random.chance(1, 20));
-        let effects = random.between(least_effects, most_effects);
+        let mut from = random.pick(&reached).clone();
+        if random.chance(1, 3) {
+            from = (0..variables).map(|v| random.below(model.domain(v))).collect();
+        }
+        let conditions = *random.pick(&[0, 0, 0, 1, 1, 2, 3]);
+        let effects = *random.pick(&[0, 1, 1, 1, 1, 1, 1, 1, 2, 2, 2, 3, 4]);
         let mut used = order.iter().copied();
-        let conditions: Vec<_> = used
-            .by_ref()
-            .take(conditions)
-            .map(|v| (v, random.below(model.domain(v))))
-            .collect();
+        let conditions: Vec<_> = used.by_ref().take(conditions).map(|v| (v, from[v])).collect();
         let effects: Vec<_> = used
             .take(effects)
             .map(|v| {
                 let domain = model.domain(v);
-                let required = random.below(domain);
                 let free = random.chance(habits.unrequired.0, habits.unrequired.1);
                 let after = if habits.one_way && random.chance(9, 10) {
-                    random.between(required, domain - 1)
+                    random.between(from[v], domain - 1)
                 } else {
                     random.below(domain)
                 };
-                (v, (!free).then_some(required), after)
+                (v, (!free).then_some(from[v]), after)
             })
             .collect();
         let price = habits.prices.draw(random);
         model.add_operator(format!("op {number}"), &conditions, &effects, price);
+        let target = model.walk(random, 20);
+        reached.push(target.into_iter().map(|value| value as usize).collect());
+    }
+
+    // Mostly facts of a state that can be reached, else of any state.
+    let mut target = model.walk(random, 40);
+    if random.chance(1, 4) {
+        target = (0..variables).map(|v| random.below(model.domain(v)) as i64).collect();
+    }
+    random.shuffle(&mut order);
+    let most = if random.chance(1, 2) { variables } else { variables.min(3) };
+    let goal = if random.chance(1, 20) { 0 } else { random.between(1, most) };
+    for &v in &order[..goal] {
+        model.goal.push((v as i64, target[v]));
     }
     model
 }
@@ -431,6 +484,56 @@ fn large(random: &mut Random) -> Model {
     model
 }
 
+/// Two groups of variables, each the size of a pattern, that step at random prices; many steps change a
+/// variable of both groups, so that it matters how prices are shared. At times steps lead upwards only,
+/// and so there are abstract states that are never reached.
+fn shared(random: &mut Random) -> Model {
+    let mut model = Model::default();
+    let one_way = random.chance(1, 2);
+    let group = random.between(2, 5);
+    let mut groups = [Vec::new(), Vec::new()];
+    for variables in &mut groups {
+        for _ in 0..group {
+            variables.push(model.variables.len());
+            let domain = random.between(2, if one_way { 5 } else { 4 });
+            let initial = random.below(if one_way { 2 } else { domain });
+            model.add_variable(&format!("v{}", model.variables.len()), domain, initial);
+        }
+        // Variables of one value fill the pattern up.
+        for _ in group..8 {
+            model.add_variable("fixed", 1, 0);
+        }
+    }
+    for number in 0..random.between(20, 120) {
+        let mut conditions = Vec::new();
+        let mut effects = Vec::new();
+        let both = random.chance(1, 2);
+        let start = random.below(2);
+        for variables in [&groups[start], &groups[1 - start]] {
+            let v = *random.pick(variables);
+            let domain = model.domain(v);
+            if effects.is_empty() || both {
+                let from = random.below(domain);
+                let required = (!random.chance(1, 8)).then_some(from);
+                let to = if one_way && required.is_some() { from } else { 0 };
+                effects.push((v, required, random.between(to, domain - 1)));
+            } else if random.chance(1, 3) {
+                conditions.push((v, random.below(domain)));
+            }
+        }
+        model.add_operator(format!("op {number}"), &conditions, &effects, random.between(0, 9));
+    }
+    let target = model.walk(random, 60);
+    for variables in &groups {
+        for &v in variables {
+            if random.chance(2, 3) {
+                model.goal.push((v as i64, target[v]));
+            }
+        }
+    }
+    model
+}
+
 /// A binary counter from 0 to all ones: operator i sets bit i and clears the bits below.
 fn counter(random: &mut Random, bits: usize) -> Model {
     let mut model = Model::default();
@@ -500,15 +603,8 @@ fn puzzle(random: &mut Random) -> Model {
 /// Many variables whose sizes make patterns end by variables or by ranks, with goals all over.
 fn patterned(random: &mut Random) -> Model {
     let mut model = Model::default();
-    const SIZES: [&[usize]; 7] = [
-        &[1, 2],
-        &[2],
-        &[2, 4],
-        &[1, 2, 3, 5],
-        &[1, 2, 8, 16, 64],
-        &[4, 8, 64, 255],
-        &[2, 3, 63, 65],
-    ];
+    const SIZES: [&[usize]; 7] =
+        [&[1, 2], &[2], &[2, 4], &[1, 2, 3, 5], &[1, 2, 8, 16, 64], &[4, 8, 64, 255], &[2, 3, 63, 65]];
     let sizes = *random.pick(&SIZES);
     for v in 0..random.between(1, 32) {
         let domain = *random.pick(sizes);
@@ -612,8 +708,18 @@ fn long_plan(random: &mut Random, bytes: usize) -> Model {
 
 fn rename(random: &mut Random, model: &mut Model) {
     const TRAPS: [&str; 12] = [
-        "", " ", "0", "-1", "begin_operator", "end_operator", "end_variable", "; cost = 6 (general cost)",
-        "~", "(name)", "007", "a b  c ",
+        "",
+        " ",
+        "0",
+        "-1",
+        "begin_operator",
+        "end_operator",
+        "end_variable",
+        "; cost = 6 (general cost)",
+        "~",
+        "(name)",
+        "007",
+        "a b  c ",
     ];
     let draw = |random: &mut Random| -> Vec<u8> {
         match random.below(3) {
@@ -635,9 +741,10 @@ fn rename(random: &mut Random, model: &mut Model) {
 
 /// Variables, values, operators, entries or bytes at their greatest.
 fn limits(random: &mut Random) -> Model {
-    let mut model = Model::default();
-    let variables = *random.pick(&[1, 2, 31, 32]);
     const DOMAINS: [&[usize]; 5] = [&[1], &[2], &[255], &[254, 255], &[1, 255]];
+    let mut model = Model::default();
+    let entries = random.chance(1, 3);
+    let variables = if entries { 32 } else { *random.pick(&[1, 2, 31, 32]) };
     let domains = *random.pick(&DOMAINS);
     for v in 0..variables {
         let domain = *random.pick(domains);
@@ -645,9 +752,15 @@ fn limits(random: &mut Random) -> Model {
         model.add_variable(&format!("v{v}"), domain, initial);
     }
     model.forget_names();
-    let operators = *random.pick(&[0, 1, 255, 256]);
-    // Of 16 places for a variable, how many an operator uses.
-    let density = *random.pick(&[1, 7, 16]);
+    for v in 0..variables {
+        if random.chance(1, 4) {
+            let last = model.domain(v) as i64 - 1;
+            model.goal.push((v as i64, *random.pick(&[0, last])));
+        }
+    }
+    let operators = if entries { 256 } else { *random.pick(&[0, 1, 255, 256]) };
+    // In how many of 16 cases an operator has a variable.
+    let density = if entries { 7 } else { *random.pick(&[1, 7, 16]) };
     for _ in 0..operators {
         let mut operator = ModelOperator { price: *random.pick(&[0, 1, 65_535]), ..Default::default() };
         for v in 0..variables {
@@ -664,40 +777,43 @@ fn limits(random: &mut Random) -> Model {
         }
         model.operators.push(operator);
     }
-    for v in 0..variables {
-        if random.chance(1, 4) {
-            let last = model.domain(v) as i64 - 1;
-            model.goal.push((v as i64, *random.pick(&[0, last])));
-        }
-    }
     model.trim();
-    match random.below(3) {
-        // Up to 4,096 entries, or one more.
-        0 => fill_entries(&mut model, 4096 + random.below(2)),
-        // Up to 65,536 bytes, or a few more or fewer.
-        1 => {
-            let length = model.text().len();
-            let wanted = random.between(65_534, 65_538);
-            if length < wanted {
-                let name = &mut model.variables[0].name;
-                name.resize(name.len() + wanted - length, b'x');
-            }
+    if entries {
+        fill_entries(&mut model, 4096 + random.below(2));
+        spoil_last_entry(random, &mut model);
+    } else if random.chance(1, 2) {
+        let length = model.text().len();
+        let wanted = random.between(65_534, 65_538);
+        if length < wanted {
+            let name = &mut model.variables[0].name;
+            name.resize(name.len() + wanted - length, b'x');
         }
-        _ => {}
     }
     model
+}
+
+/// Gives the last entry a variable that came before, a value out of range or both, or leaves it.
+fn spoil_last_entry(random: &mut Random, model: &mut Model) {
+    let Some(operator) = model.operators.last_mut() else { return };
+    let first = operator.conditions.first().map(|c| c.0);
+    let twice = random.chance(1, 3);
+    let range = random.chance(1, 4);
+    if let Some(last) = operator.effects.last_mut() {
+        if let Some(first) = first.filter(|_| twice) {
+            (last.0, last.1, last.2) = (first, -1, 0);
+        }
+        if range {
+            last.2 = 255;
+        }
+    }
 }
 
 /// Adds conditions until the entries are used up, as far as operators have variables left.
 fn fill_entries(model: &mut Model, entries: usize) {
     let mut missing = entries.saturating_sub(model.entry_count());
     for operator in &mut model.operators {
-        let used: HashSet<i64> = operator
-            .conditions
-            .iter()
-            .map(|c| c.0)
-            .chain(operator.effects.iter().map(|e| e.0))
-            .collect();
+        let used: HashSet<i64> =
+            operator.conditions.iter().map(|c| c.0).chain(operator.effects.iter().map(|e| e.0)).collect();
         for v in (0..model.variables.len() as i64).filter(|v| !used.contains(v)) {
             if missing == 0 {
                 return;

@@ -16,6 +16,7 @@ pub mod task;
 pub mod cases;
 pub mod damage;
 pub mod generate;
+pub mod inputs;
 pub mod options;
 pub mod ours;
 pub mod program;

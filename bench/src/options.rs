@@ -16,6 +16,10 @@ impl Options {
         while let Some(argument) = arguments.next() {
             match argument.strip_prefix("--") {
                 None => options.words.push(argument),
+                Some("help") => {
+                    println!("{usage}");
+                    std::process::exit(0)
+                }
                 Some(name) if switches.contains(&name) => {
                     options.values.insert(name.to_string(), String::new());
                 }

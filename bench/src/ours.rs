@@ -83,14 +83,7 @@ mod library {
     pub unsafe fn vf_search(_: *const u8, _: usize, _: u32, _: u64, _: *mut u8, _: usize) -> u64 {
         unreachable!()
     }
-    pub unsafe fn vf_projection(
-        _: *const u8,
-        _: usize,
-        _: *const u8,
-        _: usize,
-        _: *mut u8,
-        _: usize,
-    ) -> u64 {
+    pub unsafe fn vf_projection(_: *const u8, _: usize, _: *const u8, _: usize, _: *mut u8, _: usize) -> u64 {
         unreachable!()
     }
 }
@@ -138,9 +131,7 @@ pub fn plan_raw(text: &[u8], buffer: &mut [u8], capacity: u32) -> Option<u64> {
         return None;
     }
     // SAFETY: both slices are passed with their own lengths, and the library keeps neither.
-    Some(unsafe {
-        library::vf_plan(text.as_ptr(), text.len(), buffer.as_mut_ptr(), buffer.len(), capacity)
-    })
+    Some(unsafe { library::vf_plan(text.as_ptr(), text.len(), buffer.as_mut_ptr(), buffer.len(), capacity) })
 }
 
 /// Blind search with one advance; the packed fault if refused.
@@ -151,14 +142,7 @@ pub fn search(text: &[u8], capacity: u32, expansions: u64) -> Option<Result<Sear
     let mut out = [0; 64];
     // SAFETY: both slices are passed with their own lengths, and the library keeps neither.
     let packed = unsafe {
-        library::vf_search(
-            text.as_ptr(),
-            text.len(),
-            capacity,
-            expansions,
-            out.as_mut_ptr(),
-            out.len(),
-        )
+        library::vf_search(text.as_ptr(), text.len(), capacity, expansions, out.as_mut_ptr(), out.len())
     };
     if packed != 0 {
         return Some(Err(packed));

@@ -80,8 +80,7 @@ pub fn patterns(task: &Task) -> [Vec<u8>; 2] {
 
 fn solve(task: &Task, capacity: usize) -> Answer {
     let [first, second] = patterns(task);
-    let mut estimator =
-        Partition::new(Projection::new(&first, RANKS), Projection::new(&second, RANKS));
+    let mut estimator = Partition::new(Projection::new(&first, RANKS), Projection::new(&second, RANKS));
     let mut row = vec![0; task.operators().len()];
     let mut search = Search::open(task, capacity);
     let mut go_ahead = match search.start(&mut estimator, &mut row) {

@@ -6,8 +6,7 @@
 
 use crate::fault::{Cause, TextFault};
 use crate::task::{
-    Effect, Fact, Operator, Task, Variable, MAX_DOMAIN, MAX_ENTRIES, MAX_OPERATORS, MAX_PRICE,
-    MAX_VARIABLES,
+    Effect, Fact, Operator, Task, Variable, MAX_DOMAIN, MAX_ENTRIES, MAX_OPERATORS, MAX_PRICE, MAX_VARIABLES,
 };
 
 pub const MAX_TEXT: usize = 65_536;
@@ -62,9 +61,7 @@ type Step<T> = Result<T, TextFault>;
 
 impl<'t> Reader<'t> {
     fn read(&mut self, records: Records) -> Step<()> {
-        for word in
-            ["begin_version", "3", "end_version", "begin_metric", "1", "end_metric"]
-        {
+        for word in ["begin_version", "3", "end_version", "begin_metric", "1", "end_metric"] {
             self.word(word)?;
         }
 
@@ -241,16 +238,18 @@ impl<'t> Reader<'t> {
     fn cut_line(&mut self) -> Step<&'t [u8]> {
         self.line += 1;
         let rest = &self.text[self.at..];
-        let Some(length) = rest.iter().position(|&byte| byte == b'\n') else {
-            return self.fault(Cause::Cut);
-        };
-        self.at += length + 1;
-        let line = &rest[..length];
-        if line.iter().all(|byte| (32..=126).contains(byte)) {
-            Ok(line)
-        } else {
-            self.fault(Cause::Byte)
+        let mut odd = false;
+        for (length, &byte) in rest.iter().enumerate() {
+            if byte == b'\n' {
+                if odd {
+                    return self.fault(Cause::Byte);
+                }
+                self.at += length + 1;
+                return Ok(&rest[..length]);
+            }
+            odd |= !(32..=126).contains(&byte);
         }
+        self.fault(Cause::Cut)
     }
 
     fn fault<T>(&self, cause: Cause) -> Step<T> {
@@ -265,24 +264,32 @@ const HUGE: i64 = i64::MAX;
 /// The numbers of a line that holds exactly `K` of them.
 fn parse_numbers<const K: usize>(line: &[u8]) -> Option<[i64; K]> {
     let mut numbers = [0; K];
-    let mut words = line.split(|&byte| byte == b' ');
-    for number in &mut numbers {
-        *number = parse_number(words.next()?)?;
+    let mut rest = line;
+    for (place, number) in numbers.iter_mut().enumerate() {
+        if place > 0 {
+            rest = rest.strip_prefix(b" ")?;
+        }
+        (*number, rest) = parse_number(rest)?;
     }
-    words.next().is_none().then_some(numbers)
+    rest.is_empty().then_some(numbers)
 }
 
-/// A run of digits without a needless leading zero, or -1.
-fn parse_number(word: &[u8]) -> Option<i64> {
-    if word == b"-1" {
-        return Some(MINUS_ONE);
+/// The number at the start of a line, a run of digits without a needless leading zero or -1, and what
+/// follows it.
+fn parse_number(line: &[u8]) -> Option<(i64, &[u8])> {
+    if let Some(rest) = line.strip_prefix(b"-1") {
+        return Some((MINUS_ONE, rest));
     }
-    let (&first, rest) = word.split_first()?;
-    if !word.iter().all(u8::is_ascii_digit) || (first == b'0' && !rest.is_empty()) {
-        return None;
+    let mut number = 0i64;
+    let mut length = 0;
+    while let Some(digit) = line.get(length).map(|byte| byte.wrapping_sub(b'0')).filter(|&d| d < 10) {
+        number = number.saturating_mul(10).saturating_add(i64::from(digit));
+        length += 1;
     }
-    if word.len() > 9 {
-        return Some(HUGE);
+    match (length, line.first()) {
+        (0, _) => None,
+        (2.., Some(b'0')) => None,
+        (10.., _) => Some((HUGE, &line[length..])),
+        _ => Some((number, &line[length..])),
     }
-    Some(word.iter().fold(0, |number, digit| number * 10 + i64::from(digit - b'0')))
 }

@@ -122,11 +122,7 @@ impl<'s, 't> Search<'s, 't> {
     }
 
     /// Writes the task's prices into the row, sets the estimator on them and queues the initial state.
-    pub fn start<E: Estimator>(
-        &mut self,
-        estimator: &mut E,
-        row: &mut [u32],
-    ) -> Result<GoAhead, StartFault> {
+    pub fn start<E: Estimator>(&mut self, estimator: &mut E, row: &mut [u32]) -> Result<GoAhead, StartFault> {
         let operators = self.task.operators();
         if self.status != Status::Fresh {
             return Err(StartFault::Search(Cause::Order));

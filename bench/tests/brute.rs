@@ -440,7 +440,7 @@ fn queue_hands_out_the_least() {
 #[test]
 fn capacity_only_limits() {
     for seed in 0..60 {
-        let text = case(seed, 0).text;
+        let text = case(seed, None, 0).text;
         let Ok(task) = read(&text) else { continue };
         if reachable(&task, 300).is_none() {
             continue;

@@ -114,10 +114,7 @@ fn rooms() {
     let fault = refused(Records { entries: 0, ..all });
     assert_eq!((fault.cause, fault.line, fault.operator), (Cause::Room, line_of("0 2", 0), None));
     let fault = refused(Records { entries: 5, ..all });
-    assert_eq!(
-        (fault.cause, fault.line, fault.operator),
-        (Cause::Room, line_of("0 0 0 2", 0), Some(3))
-    );
+    assert_eq!((fault.cause, fault.line, fault.operator), (Cause::Room, line_of("0 0 0 2", 0), Some(3)));
 }
 
 #[test]

@@ -108,10 +108,7 @@ fn blind_searches() {
     let mut row = [9; 4];
     let go_ahead = search.start(&mut Blind, &mut row).unwrap();
     assert_eq!(row, [1, 3, 2, 7]);
-    assert_eq!(
-        search.start(&mut Blind, &mut row).unwrap_err(),
-        StartFault::Search(Cause::Order)
-    );
+    assert_eq!(search.start(&mut Blind, &mut row).unwrap_err(), StartFault::Search(Cause::Order));
     let report = search.advance(&mut Blind, go_ahead, 3).unwrap();
     assert_eq!((report.bound, report.expansions), (4, 3));
     let Outcome::More(go_ahead) = report.outcome else { panic!("{report:?}") };

@@ -45,8 +45,7 @@ fn main() {
 }
 
 fn texts_in(folder: &Path) -> Vec<PathBuf> {
-    let entries =
-        fs::read_dir(folder).unwrap_or_else(|e| stop(&format!("{}: {e}", folder.display())));
+    let entries = fs::read_dir(folder).unwrap_or_else(|e| stop(&format!("{}: {e}", folder.display())));
     let mut texts: Vec<PathBuf> = entries
         .filter_map(|entry| entry.ok().map(|entry| entry.path()))
         .filter(|path| path.extension().is_some_and(|extension| extension == "sas"))

@@ -1,9 +1,10 @@
 //! Compares the reference with our library, or with a program, on texts made from seeds.
 
 use bench::cases::{any_pattern, case, counts, projection_numbers, search_numbers, shown_fault, Case};
+use bench::generate::Shape;
 use bench::options::{stop, Options};
 use bench::ours;
-use bench::plan::{self, plan_with};
+use bench::plan::{self, plan_with, Answer};
 use bench::program::Program;
 use bench::reader::read;
 use std::collections::BTreeMap;
@@ -20,6 +21,7 @@ Makes the texts of SEEDS seeds (1,000 if not given), valid and damaged ones, and
 
   --program PATH     compare with a program: text on standard input, answer on standard output
   --first SEED       the first seed (0)
+  --shape NAME       make tasks of one shape only, such as Furniture
   --damaged PERCENT  how many texts are damaged (60)
   --threads COUNT    how many run at once (1 with the library, else all cores)
   --limit SECONDS    how long a program may run on one text (60)
@@ -35,7 +37,7 @@ enum Other {
 }
 
 fn main() {
-    let valued = ["program", "first", "damaged", "threads", "limit", "keep"];
+    let valued = ["program", "first", "shape", "damaged", "threads", "limit", "keep"];
     let options = Options::parse(USAGE, &valued, &["show"]);
     let seeds = match &options.words[..] {
         [] => 1000,
@@ -44,8 +46,11 @@ fn main() {
     };
     let first = options.number("first", 0);
     let damaged = options.number("damaged", 60);
+    let shape = options
+        .text("shape")
+        .map(|name| Shape::named(name).unwrap_or_else(|| stop(&format!("shapes are {:?}", Shape::ALL))));
     if options.has("show") {
-        let case = case(first, damaged);
+        let case = case(first, shape, damaged);
         eprintln!("seed {first}: {}", case.origin);
         print!("{}", String::from_utf8_lossy(&case.text));
         return;
@@ -77,7 +82,7 @@ fn main() {
                 if number >= seeds {
                     break;
                 }
-                let mut case = case(first + number, damaged);
+                let mut case = case(first + number, shape, damaged);
                 let (label, differences) = compare(&other, &mut case);
                 *tally.lock().expect("no thread failed").entry(label).or_insert(0u64) += 1;
                 if differences.is_empty() {
@@ -146,8 +151,7 @@ fn compare_library(case: &mut Case, differences: &mut Vec<String>) {
         differences.push(format!("read: {}, but the reference {}", shown(&given), shown(&wanted)));
     }
 
-    let capacities = [plan::CAPACITY, plan::CAPACITY, random.between(0, 40), random.between(1, 4000)];
-    for capacity in capacities.into_iter().skip(1) {
+    for capacity in [plan::CAPACITY, random.between(0, 40), random.between(1, 4000)] {
         let wanted = plan_with(text, capacity);
         let mut buffer = vec![0xa5; plan::BUFFER];
         let given = ours::plan(text, &mut buffer, capacity as u32).expect("the library is linked");
@@ -158,7 +162,10 @@ fn compare_library(case: &mut Case, differences: &mut Vec<String>) {
                 shown(&wanted.printed())
             ));
         }
-        let written = given_length(&given);
+        let written = match &given {
+            Answer::Plan(text) => text.len(),
+            _ => 0,
+        };
         if buffer[written..].iter().any(|&byte| byte != 0xa5) {
             differences.push(format!("plan with N = {capacity}: bytes beyond the text changed"));
         }
@@ -188,13 +195,6 @@ fn compare_library(case: &mut Case, differences: &mut Vec<String>) {
         if given != wanted {
             differences.push(format!("projection of {pattern:?} differs"));
         }
-    }
-}
-
-fn given_length(answer: &plan::Answer) -> usize {
-    match answer {
-        plan::Answer::Plan(text) => text.len(),
-        _ => 0,
     }
 }
 

@@ -41,11 +41,8 @@ impl Projection {
         if self.pattern.len() > MAX_PATTERN || !rising || !known {
             return Err(Cause::Pattern);
         }
-        let ranks = self
-            .pattern
-            .iter()
-            .map(|&v| u64::from(variables[usize::from(v)].domain))
-            .product::<u64>();
+        let ranks =
+            self.pattern.iter().map(|&v| u64::from(variables[usize::from(v)].domain)).product::<u64>();
         if ranks > MAX_RANKS.min(self.room) as u64 {
             return Err(Cause::Table);
         }
@@ -161,7 +158,7 @@ impl Abstraction {
         }
 
         let mut operators = Vec::new();
-        for number in 0..task.operators().len() {
+        for (number, &price) in row.iter().enumerate() {
             let mut after = Facts::default();
             let mut back = 0;
             let mut free = Vec::new();
@@ -186,7 +183,6 @@ impl Abstraction {
                     after.add(place, fact.value);
                 }
             }
-            let price = row[number];
             operators.push(AbstractOperator { after, back, price, number: number as u32, free });
         }
         Abstraction { domains, strides, goal, operators }
