@@ -649,41 +649,46 @@ fn patterned(random: &mut Random) -> Model {
     model
 }
 
-/// Exactly so many reachable states and no goal state among them, or one that needs most of them.
+/// Exactly so many reachable states, and mostly no goal state among them.
 fn capacity(random: &mut Random, states: usize) -> Model {
-    let mut model = Model::default();
+    // A grid walked in two directions, a tail of states behind its last corner, and dead ends beside the
+    // first column.
+    let dead = random.below(4);
     let width = random.between(16, 64);
-    let height = states / width;
-    let spare = states - width * height;
-    // A grid walked in both directions, and a tail of spare states behind its last corner.
+    let height = (states - dead - 1) / width;
+    let tail = states - dead - width * height;
+    let mut model = Model::default();
     model.add_variable("x", width, 0);
     model.add_variable("y", height, 0);
-    model.add_variable("tail", spare + 2, 0);
+    model.add_variable("tail", tail + 2, 0);
+    model.add_variable("spoilt", 2, 0);
+    model.add_variable("key", 2, 0);
     for x in 1..width {
         let price = random.between(0, 2);
-        model.add_operator(format!("x{x}"), &[(2, 0)], &[(0, Some(x - 1), x)], price);
+        model.add_operator(format!("x{x}"), &[(2, 0), (3, 0)], &[(0, Some(x - 1), x)], price);
     }
     for y in 1..height {
         let price = random.between(0, 2);
-        model.add_operator(format!("y{y}"), &[(2, 0)], &[(1, Some(y - 1), y)], price);
+        model.add_operator(format!("y{y}"), &[(2, 0), (3, 0)], &[(1, Some(y - 1), y)], price);
     }
-    for tail in 1..=spare {
-        let conditions = [(0, width - 1), (1, height - 1)];
-        model.add_operator(format!("t{tail}"), &conditions, &[(2, Some(tail - 1), tail)], 1);
+    for t in 1..=tail {
+        let conditions = [(0, width - 1), (1, height - 1), (3, 0)];
+        model.add_operator(format!("t{t}"), &conditions, &[(2, Some(t - 1), t)], 1);
     }
-    match random.below(3) {
-        0 => model.add_goal(2, spare + 1),
-        1 => model.add_goal(2, spare),
+    for y in 0..dead {
+        let conditions = [(0, 0), (1, y), (2, 0)];
+        model.add_operator(format!("spoil{y}"), &conditions, &[(3, Some(0), 1)], random.between(0, 3));
+    }
+    model.add_goal(3, 0);
+    match random.below(4) {
+        // No projection of the rest reaches this value.
+        0 => model.add_goal(2, tail + 1),
+        // The tail's end is the goal.
+        1 => model.add_goal(2, tail),
+        // No pattern sees that grid and tail must be in two places at once.
         _ => {
-            // The pattern cannot see that these two never go together.
-            model.add_variable("key", 2, 0);
-            for v in 3..10 {
-                model.add_variable(&format!("pad {v}"), 1, 0);
-            }
-            model.add_goal(2, spare);
-            model.add_goal(3, 1);
-            let conditions = [(0, 0), (1, 1), (2, spare)];
-            model.add_operator("turn".to_string(), &conditions[..spare.min(1) + 2], &[(3, Some(0), 1)], 1);
+            model.add_goal(4, 1);
+            model.add_operator("turn".to_string(), &[(0, 0), (1, 1), (2, tail)], &[(4, Some(0), 1)], 1);
         }
     }
     random.shuffle(&mut model.operators);
