@@ -1,7 +1,10 @@
 // From a task text to its cheapest plan, under a partition of two projections, with room for 2,048 states.
 ghost use mathlib.Core.Path.{_≡_};
 ghost use lib.ListN.{length};
+ghost use mathlib.Core.List.{List};
+ghost use Prim.Native.Nat.{ℕ};
 ghost use Rattle.std.specs.Vec.{made};
+ghost use Rattle.planner.specs.Planning.{Made, Answered};
 
 use super::patterns::pattern_length;
 use super::solve::Solution;
@@ -43,37 +46,82 @@ pub enum Answer {
     Solved(Solution),
 }
 
-// Reads a task text, solves its task, and writes the plan into the buffer. The text is copied, so that all that the task
-// borrows has one lifetime.
-pub fn plan(heap: Global, text: &[u8], buffer: &mut [u8]) -> Result<Answer, AllocError>
+// All the memory that planning a text takes, with a copy of the text: so all that a task borrows has one lifetime.
+#[derive(Drop)]
+pub struct Workspace {
+    text: Vec<u8>,
+    variables: Vec<Variable>,
+    operators: Vec<Operator>,
+    entries: Vec<Entry>,
+    nodes: Vec<Node>,
+    states: Vec<u8>,
+    index: Vec<u32>,
+    waiting: Vec<SearchEntry>,
+    places: Vec<u32>,
+    prices: Vec<u32>,
+}
+
+// What a projection keeps its distances and its queue of ranks in.
+#[derive(Drop)]
+pub struct RankSpace {
+    table: Vec<u32>,
+    ranks: Vec<RankEntry>,
+    places: Vec<u32>,
+}
+
+// Memory for a projection of at most 4,096 ranks.
+fn rank_space(heap: Global) -> Result<RankSpace, AllocError> {
+    let table = vec![in heap; 0u32; RANKS]?;
+    let ranks = vec![in heap; NO_RANK; RANKS]?;
+    let places = vec![in heap; 0u32; RANKS]?;
+    Ok(RankSpace { table, ranks, places })
+}
+
+// Memory for records of every task and a search of 2,048 states, and a copy of the text.
+fn workspace(heap: Global, text: &[u8]) -> Result<Workspace, AllocError>
+    ensures { λ r. ⌜ made r (λ w. Made (now (text .entry)) w) ⌝ }
 {
     let copy = text.to_vec(heap)?;
-    let mut variables = vec![in heap; Variable::ZERO; 32]?;
-    let mut operators = vec![in heap; Operator::ZERO; 256]?;
-    let mut entries = vec![in heap; Entry::ZERO; 4096]?;
-    let mut nodes = vec![in heap; NO_NODE; CAPACITY]?;
-    let mut states = vec![in heap; 0u8; CAPACITY * 32]?;
-    let mut index = vec![in heap; 0u32; CAPACITY * 2]?;
-    let mut waiting = vec![in heap; NO_ENTRY; CAPACITY]?;
-    let mut places = vec![in heap; 0u32; CAPACITY]?;
-    let mut prices = vec![in heap; 0u32; 256]?;
-    let mut table = vec![in heap; 0u32; RANKS]?;
-    let mut ranks = vec![in heap; NO_RANK; RANKS]?;
-    let mut rank_places = vec![in heap; 0u32; RANKS]?;
-    let mut more_table = vec![in heap; 0u32; RANKS]?;
-    let mut more_ranks = vec![in heap; NO_RANK; RANKS]?;
-    let mut more_places = vec![in heap; 0u32; RANKS]?;
+    let variables = vec![in heap; Variable::ZERO; 32]?;
+    let operators = vec![in heap; Operator::ZERO; 256]?;
+    let entries = vec![in heap; Entry::ZERO; 4096]?;
+    let nodes = vec![in heap; NO_NODE; CAPACITY]?;
+    let states = vec![in heap; 0u8; CAPACITY * 32]?;
+    let index = vec![in heap; 0u32; CAPACITY * 2]?;
+    let waiting = vec![in heap; NO_ENTRY; CAPACITY]?;
+    let places = vec![in heap; 0u32; CAPACITY]?;
+    let prices = vec![in heap; 0u32; 256]?;
+    Ok(Workspace { text: copy, variables, operators, entries, nodes, states, index, waiting, places, prices })
+}
+
+// Reads the workspace's text, solves its task, and writes the plan into the buffer.
+fn plan_in(space: Workspace, first: RankSpace, second: RankSpace, buffer: &mut [u8]) -> Answer
+    ensures { λ r. ⌜ ((text : List ℕ) → Made text space → Answered text (now (buffer .entry)) r (now (buffer .exit))) ⌝ }
+{
+    let Workspace { text, mut variables, mut operators, mut entries, mut nodes, mut states, mut index, mut waiting, mut places, mut prices } = space;
+    let RankSpace { mut table, mut ranks, places: mut rank_places } = first;
+    let RankSpace { table: mut more_table, ranks: mut more_ranks, places: mut more_places } = second;
     let mut task = Task::built_in();
-    let loaded = load(&mut task, &copy, &mut variables, &mut operators, &mut entries);
+    let loaded = load(&mut task, &text, &mut variables, &mut operators, &mut entries);
     if let Err(fault) = loaded {
-        return Ok(Answer::Unread(fault));
+        return Answer::Unread(fault);
     }
     let one = pattern_length(&task, 0);
     let two = one + pattern_length(&task, one);
-    let first = Projection::new(&VARIABLES[0..one], &mut table, &mut ranks, &mut rank_places);
-    let second = Projection::new(&VARIABLES[one..two], &mut more_table, &mut more_ranks, &mut more_places);
-    let mut estimator = Partition::new(first, second);
-    let count = task.operator_count();
+    let left = Projection::new(&VARIABLES[0..one], &mut table, &mut ranks, &mut rank_places);
+    let right = Projection::new(&VARIABLES[one..two], &mut more_table, &mut more_ranks, &mut more_places);
+    let mut estimator = Partition::new(left, right);
+    let count = task.operator_count().min(prices.len());
     let mut search = Search::open(task, &mut nodes, &mut states, &mut index, &mut waiting, &mut places);
-    Ok(Answer::Solved(solve(&mut search, &mut prices[0..count], &mut estimator, buffer)))
+    Answer::Solved(solve(&mut search, &mut prices[0..count], &mut estimator, buffer))
+}
+
+// Reads a task text, solves its task, and writes the plan into the buffer.
+pub fn plan(heap: Global, text: &[u8], buffer: &mut [u8]) -> Result<Answer, AllocError>
+    ensures { λ r. ⌜ made r (λ a. Answered (now (text .entry)) (now (buffer .entry)) a (now (buffer .exit))) ⌝ }
+{
+    let space = workspace(heap, text)?;
+    let first = rank_space(heap)?;
+    let second = rank_space(heap)?;
+    Ok(plan_in(space, first, second, buffer))
 }
