@@ -9,3 +9,4 @@ pub mod Whole
 pub mod WholeReads
 pub mod Stated
 pub mod Loads
+pub mod Rooms

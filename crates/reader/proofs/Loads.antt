@@ -30,6 +30,7 @@ use Rattle.reader.specs.Rendering.{render}
 use Rattle.reader.specs.Loading.{Enough, Shows, Loaded}
 use Rattle.reader.proofs.Whole.{Accepted, whole-from}
 use Rattle.reader.proofs.WholeReads.{Stating, TextReads, whole-reads}
+use Rattle.reader.proofs.Rooms.{same-or-room}
 use Rattle.reader.proofs.Stated.{rules-kept, model-stated, variable-names, value-names, operator-names}
 
 abbrev long : Fault
@@ -147,6 +148,7 @@ loaded-refused text m n k f vs os es t0 r =
     record {
       accepted = λ e. (let bad : _≡_ {A = ℕ} 0 1 = cc in let no-way : ⊥ = omega arith in absurd no-way);
       accepts = λ t valid enough short bytes. (let q = task-reads text m n k t valid enough short bytes in let bad : _≡_ {A = ℕ} 0 1 = cc (q .reads, g) in let no-way : ⊥ = omega arith in absurd no-way);
+      wider = λ m1 n1 k1. same-or-room text m n k m1 n1 k1;
       refused = λ f1 e. (let same : f ≡ f1 = cc in (g ∙ ap Err same, refl));
     }
 
@@ -161,6 +163,7 @@ made-of text m n k h vs os es (Ok x) t0 u t kept from put e =
           let same : q .held ≡ h = cc (q .reads, e) in
           let st : Stating text t1 h = rw same at (q .states) in
           (refl, shown text t1 h m vs n os k es u kept valid st (put .1)));
+      wider = λ m1 n1 k1. same-or-room text m n k m1 n1 k1;
       refused = λ f1 g. (let bad : _≡_ {A = ℕ} 0 1 = cc in let no-way : ⊥ = omega arith in absurd no-way);
     }
 made-of text m n k h vs os es (Err f) t0 u t kept from put e = absurd (put .0 (accepted text t h m vs n os k es kept (from .valid) (from .states)))
