@@ -20,7 +20,7 @@ pub enum Event {
     Overflow,
 }
 
-// A search: its memory, how it stands, the bound on the cost of every plan, and the expansions made since opening.
+// A search: its memory, how it stands, the bound on the cost of every plan, and the expansions newNode since opening.
 #[derive(Drop)]
 pub struct Core<'a> {
     pub(crate) memory: Memory<'a>,

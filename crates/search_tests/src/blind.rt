@@ -13,6 +13,7 @@ const NODE: Node = Node {
     parent: 0,
     operator: 0,
 };
+
 const ENTRY: SearchEntry = SearchEntry {
     f: 0,
     estimate: 0,
@@ -39,7 +40,11 @@ fn five_nodes() -> Result<(), Fail> {
     check_eq(search.bound(), 0)?;
     match search.start(&mut row, &mut blind) {
         Ok(go) => {
-            let Advanced { progress, bound, total } = search.advance(&mut blind, 3, go);
+            let Advanced {
+                progress,
+                bound,
+                total,
+            } = search.advance(&mut blind, 3, go);
             check_eq((bound, total), (4, 3))?;
             match progress {
                 Progress::More(go) => {
