@@ -28,14 +28,8 @@ fn advance<W: Write>(out: &mut W, search: &mut Search, estimator: &mut Blind, go
         Progress::Found(find) => write_plan(out, search, find),
         Progress::NoPlan => out.write_all(b"no plan\n"),
         Progress::Full => out.write_all(b"full\n"),
-        Progress::More(right) => {
-            right.spend();
-            out.write_all(b"more\n")
-        }
-        Progress::Refused(cause, right) => {
-            right.spend();
-            out.write_all(cause.name())
-        }
+        Progress::More(_) => out.write_all(b"more\n"),
+        Progress::Refused(cause, _) => out.write_all(cause.name()),
     }
 }
 

@@ -12,8 +12,8 @@ use Rattle.task.specs.declared.task.Task.{Task}
 use Rattle.tables.specs.Records.{zeroOperator, spanned}
 use Rattle.task.specs.Names.{operatorName}
 use Rattle.text.specs.Lines.{line, costLine}
-use Rattle.plain.specs.Plain.{Node, node, Way}
-use Rattle.memory.specs.Trees.{Tree, Branch}
+use Rattle.plain.specs.Plain.{Node, node, PathTo}
+use Rattle.memory.specs.Trees.{ParentTree, BranchTo}
 use Rattle.memory.specs.Plans.{lines, planText}
 use Rattle.memory.proofs.Trees.{branch-more}
 
@@ -33,10 +33,10 @@ module _ (name : ℕ → List ℕ) where
   lines-more i is = let a = length-append (line (name i)) (lines name is) in let b = line-length (name i) in omega arith
 
   -- there is room for one line more
-  pub room-more : (ns : List Node) (k x at end : ℕ) (js : List ℕ) → Tree ns → k < length ns → k ≢ 0 → Branch ns k x js → ((is : List ℕ) → Way ns x is → length (lines name is) ≤ end) → at + length (lines name js) ≡ end →
+  pub room-more : (ns : List Node) (k x at end : ℕ) (js : List ℕ) → ParentTree ns → k < length ns → k ≢ 0 → BranchTo ns k x js → ((is : List ℕ) → PathTo ns x is → length (lines name is) ≤ end) → at + length (lines name js) ≡ end →
       length (name (node ns k .operator)) + 3 ≤ at
   room-more ns k x at end js h l nz b room e =
-      ∥∥₁-elim (h .ways (node ns k .parent) (h .back k l nz .0)) le-prop (λ w.
+      ∥∥₁-elim (h .paths (node ns k .parent) (h .back k l nz .0)) le-prop (λ w.
       let i = node ns k .operator in
       let q = room (w .0 ++ i ∷ js) (branch-more ns k x js nz l b (w .0) (w .1)) in
       let a = ap length (lines-append (w .0) (i ∷ js)) ∙ length-append (lines name (w .0)) (lines name (i ∷ js)) in

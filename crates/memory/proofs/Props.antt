@@ -11,10 +11,10 @@ use Rattle.queue.proofs.Props.{sound-prop}
 use Rattle.queue.specs.declared.entries.SearchEntry.{SearchEntry}
 use Rattle.memory.specs.declared.memory.Memory.{Memory}
 use Rattle.memory.specs.Index.{Indexed}
-use Rattle.memory.specs.Rows.{Waiting, Roomy, Fine}
+use Rattle.memory.specs.Rows.{EntryFor, RoomFor, Consistent}
 
-roomy-prop : {m : Memory} → IsProp (Roomy m)
-roomy-prop p q = λ i. record {
+room-prop : {m : Memory} → IsProp (RoomFor m)
+room-prop p q = λ i. record {
   small = le-prop (p .small) (q .small) i;
   nodes = le-prop (p .nodes) (q .nodes) i;
   states = le-prop (p .states) (q .states) i;
@@ -30,14 +30,14 @@ indexed-prop p q = λ i. record {
   found = Π-prop (λ _. Π-prop (λ _. ∥∥₁-prop)) (p .found) (q .found) i;
 }
 
-waiting-prop : {m : Memory} {k : ℕ} {e : SearchEntry} → IsProp (Waiting m k e)
-waiting-prop p q = λ i. record { inside = le-prop (p .inside) (q .inside) i; sum = ≡-prop codedℕ _ _ (p .sum) (q .sum) i; node = ≡-prop codedℕ _ _ (p .node) (q .node) i }
+entry-prop : {m : Memory} {k : ℕ} {e : SearchEntry} → IsProp (EntryFor m k e)
+entry-prop p q = λ i. record { inside = le-prop (p .inside) (q .inside) i; sum = ≡-prop codedℕ _ _ (p .sum) (q .sum) i; node = ≡-prop codedℕ _ _ (p .node) (q .node) i }
 
-pub fine-prop : {m : Memory} → IsProp (Fine m)
-fine-prop p q = λ i. record {
-  roomy = roomy-prop (p .roomy) (q .roomy) i;
+pub consistent-prop : {m : Memory} → IsProp (Consistent m)
+consistent-prop p q = λ i. record {
+  lent = room-prop (p .lent) (q .lent) i;
   within = le-prop (p .within) (q .within) i;
   indexed = indexed-prop (p .indexed) (q .indexed) i;
   sound = sound-prop (p .sound) (q .sound) i;
-  tied = Π-prop (λ _. Π-prop (λ _. Π-prop (λ _. waiting-prop))) (p .tied) (q .tied) i;
+  agrees = Π-prop (λ _. Π-prop (λ _. Π-prop (λ _. entry-prop))) (p .agrees) (q .agrees) i;
 }

@@ -1,4 +1,4 @@
--- A row made from a function of the place, and slices of the state bytes. Assumes nothing.
+-- A row made from a function of the place, and slices of the state bytes.
 use mathlib.Core.Path.{_≡_, refl, sym, ap, ap₂, subst, _∙_}
 use mathlib.Core.List.{List, [], _∷_, _++_}
 use mathlib.Core.Logic.{_≢_, _⊎_, inl, inr}
@@ -14,16 +14,16 @@ use Rattle.plain.proofs.Splits.{lt-or-le}
 use Rattle.tables.proofs.Lists.{same-list}
 use Rattle.task.specs.Model.{Model, IsGoal}
 use Rattle.memory.specs.declared.node.Node.{Node}
-use Rattle.memory.specs.Rows.{rows, blank}
+use Rattle.memory.specs.Rows.{rows, zeroNode}
 
 abbrev set-g : List Node → ℕ → ℕ → List Node
-set-g ns k g = set ns k (record { g = g; parent = getD ns k blank .parent; operator = getD ns k blank .operator })
+set-g ns k g = set ns k (record { g = g; parent = getD ns k zeroNode .parent; operator = getD ns k zeroNode .operator })
 
 abbrev set-parent : List Node → ℕ → ℕ → List Node
-set-parent ns k p = set ns k (record { g = getD ns k blank .g; parent = p; operator = getD ns k blank .operator })
+set-parent ns k p = set ns k (record { g = getD ns k zeroNode .g; parent = p; operator = getD ns k zeroNode .operator })
 
 abbrev set-operator : List Node → ℕ → ℕ → List Node
-set-operator ns k o = set ns k (record { g = getD ns k blank .g; parent = getD ns k blank .parent; operator = o })
+set-operator ns k o = set ns k (record { g = getD ns k zeroNode .g; parent = getD ns k zeroNode .parent; operator = o })
 
 pub rows-length : {X : Type 0} (f : ℕ → X) (n : ℕ) → length (rows f n) ≡ n
 rows-length f zero = refl

@@ -1,4 +1,4 @@
--- The words of the index. Assumes nothing.
+-- The words of the index.
 use mathlib.Core.Path.{_≡_, refl, sym, ap, subst, _∙_}
 use mathlib.Core.List.{List, [], _∷_, _++_}
 use mathlib.Core.Logic.{_≢_, _⊎_, inl, inr, ∥∥₁-elim, ∥∥₁-map}
@@ -8,19 +8,19 @@ use native.Mathlib.Nat.{not-suc-le-zero, le-of-suc-le-suc, mod-eq-of-lt, add-mod
 use lib.ListN.{length, getD, set, drop, length-set}
 use lib.Seq.{getD-set-same, getD-set-other, drop-cons}
 use Rattle.plain.proofs.Splits.{lt-or-le, same-or-not}
-use Rattle.memory.specs.Index.{fingerprint, hash, word-at, busy, Findable, Indexed, Vacant}
+use Rattle.memory.specs.Index.{fingerprint, hash, wordAt, usedWords, Findable, Indexed, Vacant}
 
-pub busy-set : (ws : List ℕ) (i w : ℕ) → i < length ws → getD ws i 0 ≡ 0 → busy (set ws i (suc w)) ≡ busy ws + 1
-busy-set [] i w l z = absurd (not-suc-le-zero l)
-busy-set (zero ∷ ws) zero w l z = omega arith
-busy-set (suc v ∷ ws) zero w l z = absurd (omega arith)
-busy-set (zero ∷ ws) (suc i) w l z = busy-set ws i w (le-of-suc-le-suc l) z
-busy-set (suc v ∷ ws) (suc i) w l z = omega (arith, busy-set ws i w (le-of-suc-le-suc l) z)
+pub used-set : (ws : List ℕ) (i w : ℕ) → i < length ws → getD ws i 0 ≡ 0 → usedWords (set ws i (suc w)) ≡ usedWords ws + 1
+used-set [] i w l z = absurd (not-suc-le-zero l)
+used-set (zero ∷ ws) zero w l z = omega arith
+used-set (suc v ∷ ws) zero w l z = absurd (omega arith)
+used-set (zero ∷ ws) (suc i) w l z = used-set ws i w (le-of-suc-le-suc l) z
+used-set (suc v ∷ ws) (suc i) w l z = omega (arith, used-set ws i w (le-of-suc-le-suc l) z)
 
-pub busy-all : (ws : List ℕ) → ((i : ℕ) → i < length ws → getD ws i 0 ≢ 0) → busy ws ≡ length ws
-busy-all [] h = refl
-busy-all (zero ∷ ws) h = absurd (h 0 (omega arith) refl)
-busy-all (suc w ∷ ws) h = ap suc (busy-all ws (λ i l. h (suc i) (suc-le-suc l)))
+pub used-all : (ws : List ℕ) → ((i : ℕ) → i < length ws → getD ws i 0 ≢ 0) → usedWords ws ≡ length ws
+used-all [] h = refl
+used-all (zero ∷ ws) h = absurd (h 0 (omega arith) refl)
+used-all (suc w ∷ ws) h = ap suc (used-all ws (λ i l. h (suc i) (suc-le-suc l)))
 
 -- each place is tried once in a round
 pub slot-onto : (slots h i : ℕ) → h < slots → i < slots → (d : ℕ) × (d < slots) × ((h + d) % slots ≡ i)
@@ -36,22 +36,22 @@ slot-onto slots h i lh li = side (lt-or-le i h)
 
 -- a state that is not met before the first free word is not held
 pub not-indexed : (ws : List ℕ) (state : ℕ → List ℕ) (held d : ℕ) (s : List ℕ) → Indexed ws state held →
-    (word-at ws s d ≡ 0) ⊎ (length ws ≤ d) → ((j : ℕ) → j < d → (word-at ws s j ≢ 0) × (state (word-at ws s j - 1) ≡ s → ⊥)) →
+    (wordAt ws s d ≡ 0) ⊎ (length ws ≤ d) → ((j : ℕ) → j < d → (wordAt ws s j ≢ 0) × (state (wordAt ws s j - 1) ≡ s → ⊥)) →
     (k : ℕ) → k < held → state k ≡ s → ⊥
 not-indexed ws state held d s ix free met k l e = ∥∥₁-elim (ix .found k l) (λ x y. absurd x) (λ f. go (subst (λ z. Findable ws z k) e f))
   where
     go : Findable ws s k → ⊥
-    go f = side (lt-or-le (f .tries) d) free
+    go f = side (lt-or-le (f .probes) d) free
       where
-        side : (f .tries < d) ⊎ (d ≤ f .tries) → (word-at ws s d ≡ 0) ⊎ (length ws ≤ d) → ⊥
+        side : (f .probes < d) ⊎ (d ≤ f .probes) → (wordAt ws s d ≡ 0) ⊎ (length ws ≤ d) → ⊥
         side (inl m) q =
-            let w : word-at ws s (f .tries) - 1 ≡ k = omega (arith, f .here) in
-            met (f .tries) m .1 (ap state w ∙ e)
-        side (inr m) (inr q) = let z : f .tries < length ws = f .few in omega arith
-        side (inr m) (inl q) = last (same-or-not (f .tries) d)
+            let w : wordAt ws s (f .probes) - 1 ≡ k = omega (arith, f .here) in
+            met (f .probes) m .1 (ap state w ∙ e)
+        side (inr m) (inr q) = let z : f .probes < length ws = f .few in omega arith
+        side (inr m) (inl q) = last (same-or-not (f .probes) d)
           where
-            last : (f .tries ≡ d) ⊎ (f .tries ≢ d) → ⊥
-            last (inl r) = let z : word-at ws s d ≡ k + 1 = subst (λ j. word-at ws s j ≡ k + 1) r (f .here) in omega arith
+            last : (f .probes ≡ d) ⊎ (f .probes ≢ d) → ⊥
+            last (inl r) = let z : wordAt ws s d ≡ k + 1 = subst (λ j. wordAt ws s j ≡ k + 1) r (f .here) in omega arith
             last (inr r) = f .before d (omega arith) q
 
 -- one more state, at the first free word for it
@@ -59,7 +59,7 @@ pub indexed-add : (ws : List ℕ) (state state′ : ℕ → List ℕ) (held at :
     ((k : ℕ) → k < held → state′ k ≡ state k) → Indexed (set ws at (held + 1)) state′ (held + 1)
 indexed-add ws state state′ held at ix v same = record {
   valid = λ i l. pick i (rw (length-set ws at (held + 1)) at l) (same-or-not i at);
-  count = subst (λ w. busy (set ws at w) ≡ held + 1) one (busy-set ws at held (v .within) (v .free) ∙ ap (λ z. z + 1) (ix .count));
+  count = subst (λ w. usedWords (set ws at w) ≡ held + 1) one (used-set ws at held (v .within) (v .free) ∙ ap (λ z. z + 1) (ix .count));
   found = λ k l. seen k l (same-or-not k held);
 }
   where
@@ -73,27 +73,27 @@ indexed-add ws state state′ held at ix v same = record {
     pick i l (inl q) = rw q (omega (arith, getD-set-same ws at (held + 1) 0 (v .within)))
     pick i l (inr d) = omega (arith, getD-set-other ws at i (held + 1) 0 d, ix .valid i l)
 
-    word-same : (s : List ℕ) (d : ℕ) → word-at ws s d ≢ 0 → word-at ws′ s d ≡ word-at ws s d
+    word-same : (s : List ℕ) (d : ℕ) → wordAt ws s d ≢ 0 → wordAt ws′ s d ≡ wordAt ws s d
     word-same s d n =
         let m : (hash (length ws) s + d) % length ws ≢ at = λ q. n (ap (λ z. getD ws z 0) q ∙ v .free) in
-        subst (λ z. getD ws′ ((hash z s + d) % z) 0 ≡ word-at ws s d) (sym (length-set ws at (held + 1))) (getD-set-other ws at _ (held + 1) 0 m)
+        subst (λ z. getD ws′ ((hash z s + d) % z) 0 ≡ wordAt ws s d) (sym (length-set ws at (held + 1))) (getD-set-other ws at _ (held + 1) 0 m)
 
     nonzero : (k w : ℕ) → w ≡ k + 1 → w ≢ 0
     nonzero k w e z = omega arith
 
     old : (s : List ℕ) (k : ℕ) → Findable ws s k → Findable ws′ s k
     old s k f = record {
-      tries = f .tries;
+      probes = f .probes;
       few = rw (length-set ws at (held + 1)) (f .few);
-      here = word-same s (f .tries) (nonzero k _ (f .here)) ∙ f .here;
+      here = word-same s (f .probes) (nonzero k _ (f .here)) ∙ f .here;
       before = λ d l z. f .before d l (sym (word-same s d (f .before d l)) ∙ z);
     }
 
     new : Findable ws′ (state′ held) held
     new = record {
-      tries = v .tries;
+      probes = v .probes;
       few = rw (length-set ws at (held + 1)) (v .few);
-      here = subst (λ z. getD ws′ ((hash z (state′ held) + v .tries) % z) 0 ≡ held + 1) (sym (length-set ws at (held + 1)))
+      here = subst (λ z. getD ws′ ((hash z (state′ held) + v .probes) % z) 0 ≡ held + 1) (sym (length-set ws at (held + 1)))
           (ap (λ z. getD ws′ z 0) (sym (v .is)) ∙ getD-set-same ws at (held + 1) 0 (v .within));
       before = λ d l z. v .before d l (sym (word-same (state′ held) d (v .before d l)) ∙ z);
     }
@@ -126,19 +126,19 @@ wrap-over x n l h =
     sym (ap (λ v. v % n) (sym e) ∙ add-mod-right (x - n) n ∙ mod-eq-of-lt z)
 
 -- what a round over all words without a free one tells
-pub all-busy : (ws s : List ℕ) (held room : ℕ) → busy ws ≡ held → length ws ≡ 2 * room → held ≤ room → hash (length ws) s < length ws →
-    ((j : ℕ) → j < length ws → word-at ws s j ≢ 0) → room ≤ held
+pub all-busy : (ws s : List ℕ) (held room : ℕ) → usedWords ws ≡ held → length ws ≡ 2 * room → held ≤ room → hash (length ws) s < length ws →
+    ((j : ℕ) → j < length ws → wordAt ws s j ≢ 0) → room ≤ held
 all-busy ws s held room b l h m n =
-    let e : busy ws ≡ length ws = busy-all ws (λ i li. let o = slot-onto (length ws) (hash (length ws) s) i m li in λ z. n (o .0) (o .1) (ap (λ k. getD ws k 0) (o .2) ∙ z)) in
+    let e : usedWords ws ≡ length ws = used-all ws (λ i li. let o = slot-onto (length ws) (hash (length ws) s) i m li in λ z. n (o .0) (o .1) (ap (λ k. getD ws k 0) (o .2) ∙ z)) in
     omega arith
 
-pub busy-none : (ws : List ℕ) → ((i : ℕ) → i < length ws → getD ws i 0 ≡ 0) → busy ws ≡ 0
-busy-none [] h = refl
-busy-none (zero ∷ ws) h = busy-none ws (λ i l. h (suc i) (suc-le-suc l))
-busy-none (suc w ∷ ws) h = absurd (z (h 0 (omega arith)))
+pub used-none : (ws : List ℕ) → ((i : ℕ) → i < length ws → getD ws i 0 ≡ 0) → usedWords ws ≡ 0
+used-none [] h = refl
+used-none (zero ∷ ws) h = used-none ws (λ i l. h (suc i) (suc-le-suc l))
+used-none (suc w ∷ ws) h = absurd (z (h 0 (omega arith)))
   where
     z : suc w ≡ 0 → ⊥
     z e = omega arith
 
 pub indexed-none : (ws : List ℕ) (state : ℕ → List ℕ) → ((i : ℕ) → i < length ws → getD ws i 0 ≡ 0) → Indexed ws state 0
-indexed-none ws state h = record { valid = λ i l. omega (arith, h i l); count = busy-none ws h; found = λ k l. absurd (not-suc-le-zero l) }
+indexed-none ws state h = record { valid = λ i l. omega (arith, h i l); count = used-none ws h; found = λ k l. absurd (not-suc-le-zero l) }

@@ -4,12 +4,12 @@ ghost use Prim.Native.Nat.{ℕ, _+_, _*_, _%_, _<_, _≤_};
 ghost use lib.ListN.{length, getD};
 ghost use Rattle.std.specs.Orderings.{When};
 ghost use Rattle.memory.specs.Index.{hash, fingerprint};
-ghost use Rattle.memory.specs.Rows.{state-at, Fine, Sought};
+ghost use Rattle.memory.specs.Rows.{stateAt, Consistent, LookedUp};
 use crate::memory::Memory;
 
 // Where a state is held, or where it would go; Crowded: no word of the index is free.
 #[derive(Clone, Copy)]
-pub enum Place {
+pub enum Lookup {
     Held(usize),
     Free(usize),
     Crowded,
@@ -19,12 +19,13 @@ pub enum Place {
 fn fingerprint_of(state: &[u8]) -> u64
     ensures { λ r. ⌜ r ≡ fingerprint (now (state .entry)) ⌝ }
 {
-    let mut h = 0u64;
-    for i in (0..state.len()).rev() {
-        h = h.wrapping_add(state[i] as u64 + 1)
+    let mut mixed = 0u64;
+    for place in (0..state.len()).rev() {
+        mixed = mixed
+            .wrapping_add(state[place] as u64 + 1)
             .wrapping_mul(0x9e37_79b9_7f4a_7c15);
     }
-    h
+    mixed
 }
 
 // The first word that is tried for a state: the upper half of the fingerprint is the better mixed one.
@@ -53,36 +54,36 @@ fn wrapped(first: usize, others: usize, slots: usize) -> usize
 
 impl<'a> Memory<'a> {
     // Whether node k has this state.
-    fn same(&self, k: usize, state: &[u8]) -> bool
-        requires fine { ⌜ Fine (now self) ⌝ }
-        requires inside { ⌜ k < now self .held ⌝ }
-        ensures { λ r. ⌜ When r (state-at (now (self .entry)) k ≡ now (state .entry)) (state-at (now (self .entry)) k ≡ now (state .entry) → ⊥) ⌝ }
+    fn has_state(&self, node: usize, state: &[u8]) -> bool
+        requires consistent { ⌜ Consistent (now self) ⌝ }
+        requires inside { ⌜ node < now self .held ⌝ }
+        ensures { λ r. ⌜ When r (stateAt (now (self .entry)) node ≡ now (state .entry)) (stateAt (now (self .entry)) node ≡ now (state .entry) → ⊥) ⌝ }
     {
-        let at = k * self.vars;
-        let row = &self.states[at..at + self.vars];
+        let at = node * self.variables;
+        let row = &self.states[at..at + self.variables];
         row == state
     }
 
     // The node of a state, or the free word for it.
-    pub fn seek(&self, state: &[u8]) -> Place
-        requires fine { ⌜ Fine (now self) ⌝ }
-        ensures { λ r. ⌜ Sought (now (self .entry)) (now (state .entry)) r ⌝ }
+    pub fn look_up(&self, state: &[u8]) -> Lookup
+        requires consistent { ⌜ Consistent (now self) ⌝ }
+        ensures { λ r. ⌜ LookedUp (now (self .entry)) (now (state .entry)) r ⌝ }
     {
         let slots = self.index.len();
         if slots == 0 {
-            return Place::Crowded;
+            return Lookup::Crowded;
         }
         let first = hash_of(state, slots);
-        for d in 0..slots {
-            let at = wrapped(first, d, slots);
+        for probes in 0..slots {
+            let at = wrapped(first, probes, slots);
             let word = self.index[at] as usize;
             if word == 0 {
-                return Place::Free(at);
+                return Lookup::Free(at);
             }
-            if self.same(word - 1, state) {
-                return Place::Held(word - 1);
+            if self.has_state(word - 1, state) {
+                return Lookup::Held(word - 1);
             }
         }
-        Place::Crowded
+        Lookup::Crowded
     }
 }

@@ -5,9 +5,9 @@ ghost use Prim.Native.Nat.{ℕ, _+_, _-_, _*_, _^_, _<_, _≤_, min};
 ghost use lib.ListN.{length, getD, drop};
 ghost use Rattle.task.specs.Names.{operatorName};
 ghost use Rattle.text.specs.Lines.{line};
-ghost use Rattle.plain.specs.Plain.{Way};
-ghost use Rattle.memory.specs.Rows.{Fine, nodes-of};
-ghost use Rattle.memory.specs.Trees.{Tree};
+ghost use Rattle.plain.specs.Plain.{PathTo};
+ghost use Rattle.memory.specs.Rows.{Consistent, nodesOf};
+ghost use Rattle.memory.specs.Trees.{ParentTree};
 ghost use Rattle.memory.specs.Plans.{lines};
 use crate::memory::Memory;
 use task::task::Task;
@@ -24,45 +24,45 @@ fn name_of<'a>(task: &Task<'a>, operator: usize) -> &'a [u8]
 }
 
 impl<'a> Memory<'a> {
-    // How many bytes the lines of the way to node x have: more, perhaps, than a slice can.
-    pub fn lines_len(&self, task: &Task<'_>, x: usize) -> u128
-        requires fine { ⌜ Fine (now self) ⌝ }
-        requires inside { ⌜ x < now self .held ⌝ }
-        requires tree { ⌜ Tree (nodes-of (now self)) ⌝ }
-        ensures way { λ r. ⌜ ((is : List ℕ) × Way (nodes-of (now (self .entry))) x is × (r ≡ length (lines (operatorName (now (task .entry))) is))) ⌝ }
+    // How many bytes the lines of the path to node x have: more, perhaps, than a slice can.
+    pub fn lines_len(&self, task: &Task<'_>, node: usize) -> u128
+        requires consistent { ⌜ Consistent (now self) ⌝ }
+        requires inside { ⌜ node < now self .held ⌝ }
+        requires tree { ⌜ ParentTree (nodesOf (now self)) ⌝ }
+        ensures path { λ r. ⌜ ((is : List ℕ) × PathTo (nodesOf (now (self .entry))) node is × (r ≡ length (lines (operatorName (now (task .entry))) is))) ⌝ }
         ensures low { λ r. ⌜ r ≤ 65535 * 2 ^ 65 ⌝ }
     {
-        let mut k = x;
+        let mut current = node;
         let mut len = 0u128;
-        for n in 0..self.held {
-            if k == 0 {
+        for steps in 0..self.held {
+            if current == 0 {
                 return len;
             }
-            let name = name_of(task, self.nodes[k].operator as usize);
+            let name = name_of(task, self.nodes[current].operator as usize);
             len += name.len() as u128 + 3;
-            k = self.nodes[k].parent as usize;
+            current = self.nodes[current].parent as usize;
         }
         len
     }
 
-    // Writes the lines of the way to node x right before `end`.
-    pub fn lines_back(&self, task: &Task<'_>, x: usize, buffer: &mut [u8], end: usize) -> usize
-        requires fine { ⌜ Fine (now self) ⌝ }
-        requires inside { ⌜ x < now self .held ⌝ }
-        requires tree { ⌜ Tree (nodes-of (now self)) ⌝ }
-        requires room { ⌜ ((is : List ℕ) → Way (nodes-of (now self)) x is → length (lines (operatorName (now task)) is) ≤ end) ⌝ }
+    // Writes the lines of the path to node x right before `end`.
+    pub fn lines_back(&self, task: &Task<'_>, node: usize, buffer: &mut [u8], end: usize) -> usize
+        requires consistent { ⌜ Consistent (now self) ⌝ }
+        requires inside { ⌜ node < now self .held ⌝ }
+        requires tree { ⌜ ParentTree (nodesOf (now self)) ⌝ }
+        requires fits { ⌜ ((is : List ℕ) → PathTo (nodesOf (now self)) node is → length (lines (operatorName (now task)) is) ≤ end) ⌝ }
         requires within { ⌜ end ≤ length (now buffer) ⌝ }
-        ensures { λ r. ⌜ ((is : List ℕ) × Way (nodes-of (now (self .entry))) x is × (r + length (lines (operatorName (now (task .entry))) is) ≡ end) × (drop r (now (buffer .exit)) ≡ lines (operatorName (now (task .entry))) is ++ drop end (now (buffer .entry)))) ⌝ }
+        ensures { λ r. ⌜ ((is : List ℕ) × PathTo (nodesOf (now (self .entry))) node is × (r + length (lines (operatorName (now (task .entry))) is) ≡ end) × (drop r (now (buffer .exit)) ≡ lines (operatorName (now (task .entry))) is ++ drop end (now (buffer .entry)))) ⌝ }
     {
-        let mut k = x;
+        let mut current = node;
         let mut at = end;
-        for n in 0..self.held {
-            if k == 0 {
+        for steps in 0..self.held {
+            if current == 0 {
                 return at;
             }
-            let name = name_of(task, self.nodes[k].operator as usize);
+            let name = name_of(task, self.nodes[current].operator as usize);
             at = line_back(buffer, at, name);
-            k = self.nodes[k].parent as usize;
+            current = self.nodes[current].parent as usize;
         }
         at
     }

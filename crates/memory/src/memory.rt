@@ -9,7 +9,7 @@ pub struct Memory<'a> {
     pub states: &'a mut [u8],
     pub index: &'a mut [u32],
     pub queue: Queue<'a, SearchEntry>,
-    pub vars: usize,
-    pub room: usize,
+    pub variables: usize,
+    pub capacity: usize,
     pub held: usize,
 }

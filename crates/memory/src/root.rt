@@ -3,30 +3,30 @@ ghost use mathlib.Core.Path.{_≡_};
 ghost use Prim.Native.Nat.{ℕ, _+_, _<_, _≤_};
 ghost use lib.ListN.{length};
 ghost use Rattle.task.specs.Model.{model};
-ghost use Rattle.memory.specs.Rows.{Fine, Alike, nodes-of};
+ghost use Rattle.memory.specs.Rows.{Consistent, Untouched, nodesOf};
 ghost use Rattle.memory.specs.Steps.{Rooted};
-use crate::index::Place;
+use crate::index::Lookup;
 use crate::memory::Memory;
 use crate::node::Node;
 use estimator::estimator::Estimator;
 use task::task::Task;
 
 impl<'a> Memory<'a> {
-    // Node 0: the initial state, which waits if its estimate is a number.
-    pub fn root<E: Estimator>(&mut self, task: &Task<'_>, e: &mut E, state: &mut [u8])
-        requires fine { ⌜ Fine (now self) ⌝ }
+    // Node 0: the initial state, which in-queue if its estimate is a number.
+    pub fn root<E: Estimator>(&mut self, task: &Task<'_>, estimator: &mut E, state: &mut [u8])
+        requires consistent { ⌜ Consistent (now self) ⌝ }
         requires empty { ⌜ now self .held ≡ 0 ⌝ }
-        requires some { ⌜ 0 < now self .room ⌝ }
-        requires width { ⌜ length (now state) ≡ now self .vars ⌝ }
-        requires vars { ⌜ now self .vars ≡ length (now (now task .variables)) ⌝ }
-        ensures fine { λ _. ⌜ Fine (now (self .exit)) ⌝ }
-        ensures alike { λ _. ⌜ Alike (now (self .entry)) (now (self .exit)) ⌝ }
-        ensures rooted { λ _. ⌜ Rooted (E·Estimator .answers) (model (now (task .entry))) (now (e .entry)) (nodes-of (now (self .exit))) (now (e .exit)) ⌝ }
+        requires some { ⌜ 0 < now self .capacity ⌝ }
+        requires width { ⌜ length (now state) ≡ now self .variables ⌝ }
+        requires variables { ⌜ now self .variables ≡ length (now (now task .variables)) ⌝ }
+        ensures consistent { λ _. ⌜ Consistent (now (self .exit)) ⌝ }
+        ensures untouched { λ _. ⌜ Untouched (now (self .entry)) (now (self .exit)) ⌝ }
+        ensures rooted { λ _. ⌜ Rooted (E·Estimator .answers) (model (now (task .entry))) (now (estimator .entry)) (nodesOf (now (self .exit))) (now (estimator .exit)) ⌝ }
     {
         task.initial_into(state);
-        let wait = e.estimate(task, state);
-        match self.seek(state) {
-            Place::Free(at) => {
+        let answer = estimator.estimate(task, state);
+        match self.look_up(state) {
+            Lookup::Free(at) => {
                 self.add(
                     at,
                     state,
@@ -36,11 +36,11 @@ impl<'a> Memory<'a> {
                         operator: 0,
                     },
                 );
-                self.settle(0, wait);
+                self.queue_new(0, answer);
                 return;
             }
-            Place::Held(_) => return,
-            Place::Crowded => return,
+            Lookup::Held(_) => return,
+            Lookup::Crowded => return,
         }
     }
 }

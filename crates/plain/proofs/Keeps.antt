@@ -1,4 +1,4 @@
--- What holds of the nodes at all times, and that a node may be placed. Assumes nothing.
+-- What holds of the nodes at all times, and that a node may be placed.
 use mathlib.Core.Path.{_≡_, refl, sym, ap, _∙_, subst}
 use mathlib.Core.Logic.{_≢_, _⊎_, inl, inr}
 use mathlib.Core.List.{List, [], _∷_, _++_}
@@ -8,42 +8,42 @@ use lib.ListN.{length, getD}
 use Rattle.std.specs.declared.option.Option.{Option}
 use Rattle.std.specs.declared.option.Option.the-variants.{None, Some}
 use Rattle.task.specs.Model.{Model, prices, IsState, IsGoal, Applies, applied, Plan, Leads, Cost, dearest, WellFormed}
-use Rattle.plain.specs.Plain.{Node, node, nowhere, made, Waits, Way, Way.home, Way.step}
+use Rattle.plain.specs.Plain.{Node, node, noNode, newNode, Queued, PathTo, PathTo.home, PathTo.step}
 use Rattle.plain.proofs.Placed.{Placed}
-use Rattle.plain.proofs.Ways.{Came, way-new, way-again}
+use Rattle.plain.proofs.Paths.{ComesFrom, path-new, path-again}
 use Rattle.plain.proofs.Splits.{same-or-not, lt-or-le}
 
--- an estimate that is owed: no plan costs less, and where there is none, there is no plan
-abbrev pub Fair : Model → List ℕ → Option ℕ → Type 0
-Fair t s None = (is : List ℕ) → Plan t s is → ⊥
-Fair t s (Some h) = (is : List ℕ) → Plan t s is → h ≤ Cost (prices t) is
+-- an estimate that is allLeft: no plan costs less, and where there is none, there is no plan
+abbrev pub AdmissibleAt : Model → List ℕ → Option ℕ → Type 0
+AdmissibleAt t s None = (is : List ℕ) → Plan t s is → ⊥
+AdmissibleAt t s (Some h) = (is : List ℕ) → Plan t s is → h ≤ Cost (prices t) is
 
 -- operator j leads from node k to a held state, at no more than k's Cost and the price
-pub record Down (t : Model) (ns : List Node) (k j : ℕ) : Type 0 where
+pub record Relaxed (t : Model) (ns : List Node) (k j : ℕ) : Type 0 where
   pub to : ℕ
   pub held : to < length ns
   pub leads : node ns to .state ≡ applied t (node ns k .state) j
   pub costs : node ns to .g ≤ node ns k .g + getD (prices t) j 0
 
 -- node k was expanded; of the node x only the operators below i count
-pub record Done (t : Model) (ns : List Node) (x i k : ℕ) : Type 0 where
-  pub idle : node ns k .wait ≡ None
+pub record Closed (t : Model) (ns : List Node) (x i k : ℕ) : Type 0 where
+  pub idle : node ns k .queued ≡ None
   pub short : ¬ IsGoal t (node ns k .state)
-  pub down : (j : ℕ) → (k ≡ x → j < i) → Applies t (node ns k .state) j → Down t ns k j
+  pub down : (j : ℕ) → (k ≡ x → j < i) → Applies t (node ns k .state) j → Relaxed t ns k j
 
-pub record Inv (t : Model) (ns : List Node) (x i : ℕ) : Type 0 where
+pub record Invariant (t : Model) (ns : List Node) (x i : ℕ) : Type 0 where
   pub some : 0 < length ns
   pub root : node ns 0 .state ≡ t .initial
   pub free : node ns 0 .g ≡ 0
   pub states : (k : ℕ) → k < length ns → IsState t (node ns k .state)
   pub sole : (j k : ℕ) → j < length ns → k < length ns → node ns j .state ≡ node ns k .state → j ≡ k
-  pub came : (k : ℕ) → k < length ns → k ≢ 0 → Came t ns k
-  pub ways : (k : ℕ) → k < length ns → (is : List ℕ) × Way ns k is
+  pub came : (k : ℕ) → k < length ns → k ≢ 0 → ComesFrom t ns k
+  pub paths : (k : ℕ) → k < length ns → (is : List ℕ) × PathTo ns k is
   pub low : (k : ℕ) → k < length ns → node ns k .g ≤ k * dearest (prices t)
-  pub closed : (k : ℕ) → k < length ns → Fair t (node ns k .state) (node ns k .wait) ⊎ Done t ns x i k
+  pub closed : (k : ℕ) → k < length ns → AdmissibleAt t (node ns k .state) (node ns k .queued) ⊎ Closed t ns x i k
 
 -- one more operator has been tried
-pub further : (t : Model) (ns : List Node) (x i : ℕ) → Inv t ns x i → (Applies t (node ns x .state) i → Down t ns x i) → Inv t ns x (suc i)
+pub further : (t : Model) (ns : List Node) (x i : ℕ) → Invariant t ns x i → (Applies t (node ns x .state) i → Relaxed t ns x i) → Invariant t ns x (suc i)
 further t ns x i inv d = record {
   some = inv .some;
   root = inv .root;
@@ -51,22 +51,22 @@ further t ns x i inv d = record {
   states = inv .states;
   sole = inv .sole;
   came = inv .came;
-  ways = inv .ways;
+  paths = inv .paths;
   low = inv .low;
   closed = λ k l. side k (inv .closed k l);
 }
   where
-    at-x : (k : ℕ) → Done t ns x i k → (j : ℕ) → (k ≡ x → j < suc i) → Applies t (node ns k .state) j → (k ≡ x) ⊎ (k ≢ x) → (j ≡ i) ⊎ (j ≢ i) → Down t ns k j
+    at-x : (k : ℕ) → Closed t ns x i k → (j : ℕ) → (k ≡ x → j < suc i) → Applies t (node ns k .state) j → (k ≡ x) ⊎ (k ≢ x) → (j ≡ i) ⊎ (j ≢ i) → Relaxed t ns k j
     at-x k o j f a (inl q) (inl r) = rw (q, r) (d (rw (q, r) at a))
     at-x k o j f a (inl q) (inr r) = o .down j (λ z. omega (arith, f z)) a
     at-x k o j f a (inr q) y = o .down j (λ z. absurd (q z)) a
 
-    side : (k : ℕ) → Fair t (node ns k .state) (node ns k .wait) ⊎ Done t ns x i k → Fair t (node ns k .state) (node ns k .wait) ⊎ Done t ns x (suc i) k
+    side : (k : ℕ) → AdmissibleAt t (node ns k .state) (node ns k .queued) ⊎ Closed t ns x i k → AdmissibleAt t (node ns k .state) (node ns k .queued) ⊎ Closed t ns x (suc i) k
     side k (inl f) = inl f
     side k (inr o) = inr record { idle = o .idle; short = o .short; down = λ j f a. at-x k o j f a (same-or-not k x) (same-or-not j i) }
 
 -- what a node placed at k has to be: new, or better than the one there
-pub record Comes (t : Model) (ns : List Node) (x i k : ℕ) (a : Option ℕ) : Type 0 where
+pub record Placing (t : Model) (ns : List Node) (x i k : ℕ) (a : Option ℕ) : Type 0 where
   pub from : x < length ns
   pub applies : Applies t (node ns x .state) i
   pub sole : (j : ℕ) → j < length ns → node ns j .state ≡ applied t (node ns x .state) i → j ≡ k
@@ -75,14 +75,14 @@ pub record Comes (t : Model) (ns : List Node) (x i k : ℕ) (a : Option ℕ) : T
   pub apart : k ≢ x
   pub nonzero : k ≢ 0
   pub low : node ns x .g + getD (prices t) i 0 ≤ k * dearest (prices t)
-  pub fair : Fair t (applied t (node ns x .state) i) a
+  pub fair : AdmissibleAt t (applied t (node ns x .state) i) a
 
 pub came-by : (t : Model) (ms : List Node) (j p b : ℕ) → node ms j .parent ≡ p → node ms j .operator ≡ b → p < length ms → Applies t (node ms p .state) b →
-    applied t (node ms p .state) b ≡ node ms j .state → node ms p .g + getD (prices t) b 0 ≤ node ms j .g → Came t ms j
+    applied t (node ms p .state) b ≡ node ms j .state → node ms p .g + getD (prices t) b 0 ≤ node ms j .g → ComesFrom t ms j
 came-by t ms j p b ep eb l a e g = record { from = rw ep l; applies = rw (ep, eb) a; leads = rw (ep, eb) e; costs = rw (ep, eb) g }
 
-module _ (t : Model) (sound : WellFormed t) (ns ms : List Node) (x i k : ℕ) (a : Option ℕ) (inv : Inv t ns x i) (c : Comes t ns x i k a)
-    (placed : Placed ns k (made (applied t (node ns x .state) i) (node ns x .g + getD (prices t) i 0) x i a) ms) where
+module _ (t : Model) (sound : WellFormed t) (ns ms : List Node) (x i k : ℕ) (a : Option ℕ) (inv : Invariant t ns x i) (c : Placing t ns x i k a)
+    (placed : Placed ns k (newNode (applied t (node ns x .state) i) (node ns x .g + getD (prices t) i 0) x i a) ms) where
   here-state : node ms k .state ≡ applied t (node ns x .state) i
   here-state = rw (placed .here)
 
@@ -126,7 +126,7 @@ module _ (t : Model) (sound : WellFormed t) (ns ms : List Node) (x i k : ℕ) (a
   x-inside : x < length ms
   x-inside = placed .more x (c .from)
 
-  came-k : Came t ms k
+  came-k : ComesFrom t ms k
   came-k = came-by t ms k x i (rw (placed .here)) (rw (placed .here)) x-inside (rw x-same (c .applies)) (rw (x-same, here-state)) (rw (x-same, here-g) (omega arith))
 
   -- what stood of a node's state stands, and its Cost is no greater
@@ -144,28 +144,28 @@ module _ (t : Model) (sound : WellFormed t) (ns ms : List Node) (x i k : ℕ) (a
       side (inl q) = rw q (omega (arith, here-g, c .falls (rw q at l)))
       side (inr d) = omega (arith, ap (λ n. n .g) (placed .others j d))
 
-  came′ : (j : ℕ) → j < length ms → j ≢ 0 → Came t ms j
-  came′ = by-case (λ j. j ≢ 0 → Came t ms j) (λ j q _. rw q came-k) (λ j d l o z.
+  came′ : (j : ℕ) → j < length ms → j ≢ 0 → ComesFrom t ms j
+  came′ = by-case (λ j. j ≢ 0 → ComesFrom t ms j) (λ j q _. rw q came-k) (λ j d l o z.
       let b = inv .came j l z in
       let s = state-stays (node ns j .parent) (b .from) in
       came-by t ms j (node ns j .parent) (node ns j .operator) (ap (λ n. n .parent) o) (ap (λ n. n .operator) o)
       (placed .more (node ns j .parent) (b .from)) (rw s (b .applies)) (rw (s, o) (b .leads))
       (rw o (omega (arith, g-falls (node ns j .parent) (b .from), b .costs))))
 
-  ways′ : (j : ℕ) → j < length ms → (is : List ℕ) × Way ms j is
-  ways′ = by-case (λ j. (is : List ℕ) × Way ms j is)
-      (λ j q. rw q (way-new t ns ms k _ placed (inv .came) (c .falls) (c .nonzero) (inv .ways x (c .from)) (omega arith)))
-      (λ j d l o. way-again t ns ms k _ placed (inv .came) (c .falls) (c .nonzero) (inv .ways x (c .from)) (omega arith) j (inv .ways j l .0) (inv .ways j l .1))
+  ways′ : (j : ℕ) → j < length ms → (is : List ℕ) × PathTo ms j is
+  ways′ = by-case (λ j. (is : List ℕ) × PathTo ms j is)
+      (λ j q. rw q (path-new t ns ms k _ placed (inv .came) (c .falls) (c .nonzero) (inv .paths x (c .from)) (omega arith)))
+      (λ j d l o. path-again t ns ms k _ placed (inv .came) (c .falls) (c .nonzero) (inv .paths x (c .from)) (omega arith) j (inv .paths j l .0) (inv .paths j l .1))
 
   low′ : (j : ℕ) → j < length ms → node ms j .g ≤ j * dearest (prices t)
   low′ = by-case (λ j. node ms j .g ≤ j * dearest (prices t)) (λ j q. rw (q, here-g) (c .low)) (λ j d l o. rw o (inv .low j l))
 
-  closed′ : (j : ℕ) → j < length ms → Fair t (node ms j .state) (node ms j .wait) ⊎ Done t ms x i j
-  closed′ = by-case (λ j. Fair t (node ms j .state) (node ms j .wait) ⊎ Done t ms x i j)
+  closed′ : (j : ℕ) → j < length ms → AdmissibleAt t (node ms j .state) (node ms j .queued) ⊎ Closed t ms x i j
+  closed′ = by-case (λ j. AdmissibleAt t (node ms j .state) (node ms j .queued) ⊎ Closed t ms x i j)
       (λ j q. inl (rw (q, placed .here) (c .fair)))
       (λ j d l o. side j l o (inv .closed j l))
     where
-      side : (j : ℕ) → j < length ns → node ms j ≡ node ns j → Fair t (node ns j .state) (node ns j .wait) ⊎ Done t ns x i j → Fair t (node ms j .state) (node ms j .wait) ⊎ Done t ms x i j
+      side : (j : ℕ) → j < length ns → node ms j ≡ node ns j → AdmissibleAt t (node ns j .state) (node ns j .queued) ⊎ Closed t ns x i j → AdmissibleAt t (node ms j .state) (node ms j .queued) ⊎ Closed t ms x i j
       side j l o (inl f) = inl (rw o f)
       side j l o (inr w) = inr record {
         idle = rw o (w .idle);
@@ -180,7 +180,7 @@ module _ (t : Model) (sound : WellFormed t) (ns ms : List Node) (x i k : ℕ) (a
             };
       }
 
-  placed-inv : Inv t ms x i
+  placed-inv : Invariant t ms x i
   placed-inv = record {
     some = placed .more 0 (inv .some);
     root = state-stays 0 (inv .some) ∙ inv .root;
@@ -188,10 +188,10 @@ module _ (t : Model) (sound : WellFormed t) (ns ms : List Node) (x i k : ℕ) (a
     states = states′;
     sole = sole′;
     came = came′;
-    ways = ways′;
+    paths = ways′;
     low = low′;
     closed = closed′;
   }
 
-  pub placed-further : Inv t ms x (suc i)
+  pub placed-further : Invariant t ms x (suc i)
   placed-further = further t ms x i placed-inv (λ _. record { to = k; held = placed .inside; leads = rw (here-state, x-same); costs = rw (here-g, x-same) (omega arith) })

@@ -1,4 +1,4 @@
--- The invariant over the steps of the search. Assumes nothing.
+-- The invariant over the steps of the search.
 use mathlib.Core.Path.{_≡_, refl, sym, ap, _∙_, subst}
 use mathlib.Core.Logic.{_≢_, _⊎_, inl, inr}
 use mathlib.Core.List.{List, [], _∷_, _++_}
@@ -9,23 +9,23 @@ use lib.ListN.{length, getD, set, length-set}
 use Rattle.std.specs.declared.option.Option.{Option}
 use Rattle.std.specs.declared.option.Option.the-variants.{None, Some}
 use Rattle.task.specs.Model.{Model, prices, IsState, IsGoal, Applies, applied, Plan, Leads, Cost, dearest, WellFormed}
-use Rattle.plain.specs.Plain.{Estimates, Lawful, Node, node, nowhere, made, taken, Waits, Least, Before, Before.by-f, Before.by-h, Before.by-k, Way, Try, Try.skips, Try.keeps, Try.betters, Try.adds, Tries}
+use Rattle.plain.specs.Plain.{Kind, Lawful, Node, node, noNode, newNode, dequeued, Queued, Least, NoLater, NoLater.by-f, NoLater.by-estimate, NoLater.by-node, PathTo, Generates, Generates.inapplicable, Generates.notBetter, Generates.reopens, Generates.adds, GeneratesAll}
 use Rattle.plain.proofs.Placed.{Placed, set-placed, add-placed}
-use Rattle.plain.proofs.Ways.{Came, way-leads, way-costs, way-same}
-use Rattle.plain.proofs.Keeps.{Fair, Down, Done, Inv, Comes, further, placed-further, came-by}
-use Rattle.plain.specs.Counts.{Sums}
-use Rattle.plain.proofs.Sums.{sums-set, sums-add, sums-take, dearest-le, cost-le}
+use Rattle.plain.proofs.Paths.{ComesFrom, path-leads, path-costs, path-same}
+use Rattle.plain.proofs.Keeps.{AdmissibleAt, Relaxed, Closed, Invariant, Placing, further, placed-further, came-by}
+use Rattle.plain.specs.Counts.{Budget}
+use Rattle.plain.proofs.Budget.{budget-set, budget-add, budget-take, dearest-le, cost-le}
 use Rattle.plain.proofs.Splits.{same-or-not, lt-or-le}
 
 -- nothing is left to try of any node
-abbrev pub Still : Model → List Node → Type 0
-Still t ns = Inv t ns 0 (length (t .operators))
+abbrev pub AllClosed : Model → List Node → Type 0
+AllClosed t ns = Invariant t ns 0 (length (t .operators))
 
--- a waiting node whose f is at most c
-pub record Front (ns : List Node) (c : ℕ) : Type 0 where
+-- a queuedWith node whose f is at most c
+pub record OnPlan (ns : List Node) (c : ℕ) : Type 0 where
   pub at : ℕ
   pub h : ℕ
-  pub waits : Waits ns at h
+  pub in-queue : Queued ns at h
   pub below : node ns at .g + h ≤ c
 
 module _ (t : Model) where
@@ -33,7 +33,7 @@ module _ (t : Model) where
   unfolding Applies
   applies-below s i a = a .0
 
-  pub stilled : (ns : List Node) (x : ℕ) → Inv t ns x (length (t .operators)) → Still t ns
+  pub stilled : (ns : List Node) (x : ℕ) → Invariant t ns x (length (t .operators)) → AllClosed t ns
   stilled ns x inv = record {
     some = inv .some;
     root = inv .root;
@@ -41,52 +41,52 @@ module _ (t : Model) where
     states = inv .states;
     sole = inv .sole;
     came = inv .came;
-    ways = inv .ways;
+    paths = inv .paths;
     low = inv .low;
     closed = λ k l. side k (inv .closed k l);
   }
     where
-      side : (k : ℕ) → Fair t (node ns k .state) (node ns k .wait) ⊎ Done t ns x (length (t .operators)) k →
-          Fair t (node ns k .state) (node ns k .wait) ⊎ Done t ns 0 (length (t .operators)) k
+      side : (k : ℕ) → AdmissibleAt t (node ns k .state) (node ns k .queued) ⊎ Closed t ns x (length (t .operators)) k →
+          AdmissibleAt t (node ns k .state) (node ns k .queued) ⊎ Closed t ns 0 (length (t .operators)) k
       side k (inl f) = inl f
       side k (inr o) = inr record { idle = o .idle; short = o .short; down = λ j f a. o .down j (λ _. applies-below (node ns k .state) j a) a }
 
-  -- on each plan there is a waiting node
-  module _ (ns : List Node) (inv : Still t ns) where
-    fair-front : (k : ℕ) (is : List ℕ) → k < length ns → Plan t (node ns k .state) is → (o : Option ℕ) → node ns k .wait ≡ o → Fair t (node ns k .state) o →
-        Front ns (node ns k .g + Cost (prices t) is)
+  -- on each plan there is a queuedWith node
+  module _ (ns : List Node) (inv : AllClosed t ns) where
+    fair-front : (k : ℕ) (is : List ℕ) → k < length ns → Plan t (node ns k .state) is → (o : Option ℕ) → node ns k .queued ≡ o → AdmissibleAt t (node ns k .state) o →
+        OnPlan ns (node ns k .g + Cost (prices t) is)
     fair-front k is l p None e f = absurd (f is p)
-    fair-front k is l p (Some h) e f = record { at = k; h = h; waits = (l, e); below = omega (arith, f is p) }
+    fair-front k is l p (Some h) e f = record { at = k; h = h; in-queue = (l, e); below = omega (arith, f is p) }
 
-    pub front : (is : List ℕ) (k : ℕ) → k < length ns → Plan t (node ns k .state) is → Front ns (node ns k .g + Cost (prices t) is)
+    pub front : (is : List ℕ) (k : ℕ) → k < length ns → Plan t (node ns k .state) is → OnPlan ns (node ns k .g + Cost (prices t) is)
     front [] k l p = side (inv .closed k l)
       where
-        side : Fair t (node ns k .state) (node ns k .wait) ⊎ Done t ns 0 (length (t .operators)) k → Front ns (node ns k .g + Cost (prices t) [])
-        side (inl f) = fair-front k [] l p (node ns k .wait) refl f
+        side : AdmissibleAt t (node ns k .state) (node ns k .queued) ⊎ Closed t ns 0 (length (t .operators)) k → OnPlan ns (node ns k .g + Cost (prices t) [])
+        side (inl f) = fair-front k [] l p (node ns k .queued) refl f
         side (inr o) = absurd (o .short p)
     front (i ∷ is) k l p = side (inv .closed k l) (λ m lm q. front is m lm q)
       where
-        side : Fair t (node ns k .state) (node ns k .wait) ⊎ Done t ns 0 (length (t .operators)) k →
-            ((m : ℕ) → m < length ns → Plan t (node ns m .state) is → Front ns (node ns m .g + Cost (prices t) is)) → Front ns (node ns k .g + Cost (prices t) (i ∷ is))
-        side (inl f) rec = fair-front k (i ∷ is) l p (node ns k .wait) refl f
+        side : AdmissibleAt t (node ns k .state) (node ns k .queued) ⊎ Closed t ns 0 (length (t .operators)) k →
+            ((m : ℕ) → m < length ns → Plan t (node ns m .state) is → OnPlan ns (node ns m .g + Cost (prices t) is)) → OnPlan ns (node ns k .g + Cost (prices t) (i ∷ is))
+        side (inl f) rec = fair-front k (i ∷ is) l p (node ns k .queued) refl f
         side (inr o) rec =
             let d = o .down i (λ _. applies-below (node ns k .state) i (p .0)) (p .0) in
             let r = rec (d .to) (d .held) (rw (d .leads) (p .1)) in
-            record { at = r .at; h = r .h; waits = r .waits; below = omega (arith, r .below, d .costs) }
+            record { at = r .at; h = r .h; in-queue = r .in-queue; below = omega (arith, r .below, d .costs) }
 
     -- no plan costs less than the least f
     pub least-below : (x h : ℕ) → Least ns x h → (is : List ℕ) → Plan t (t .initial) is → node ns x .g + h ≤ Cost (prices t) is
     least-below x h least is p =
         let r = front is 0 (inv .some) (rw (inv .root) p) in
-        side r (least .first (r .at) (r .h) (r .waits))
+        side r (least .first (r .at) (r .h) (r .in-queue))
       where
-        side : (r : Front ns (node ns 0 .g + Cost (prices t) is)) → Before (node ns x .g + h) h x (node ns (r .at) .g + r .h) (r .h) (r .at) → node ns x .g + h ≤ Cost (prices t) is
+        side : (r : OnPlan ns (node ns 0 .g + Cost (prices t) is)) → NoLater (node ns x .g + h) h x (node ns (r .at) .g + r .h) (r .h) (r .at) → node ns x .g + h ≤ Cost (prices t) is
         side r (by-f l) = omega (arith, r .below, inv .free)
-        side r (by-h e l) = omega (arith, r .below, inv .free)
-        side r (by-k e _ l) = omega (arith, r .below, inv .free)
+        side r (by-estimate e l) = omega (arith, r .below, inv .free)
+        side r (by-node e _ l) = omega (arith, r .below, inv .free)
 
-    -- the least node is taken from the queue, to be expanded
-    pub take-inv : (x h : ℕ) → Waits ns x h → ¬ IsGoal t (node ns x .state) → Inv t (set ns x (taken (node ns x))) x 0
+    -- the least node is dequeued from the queue, to be expanded
+    pub take-inv : (x h : ℕ) → Queued ns x h → ¬ IsGoal t (node ns x .state) → Invariant t (set ns x (dequeued (node ns x))) x 0
     take-inv x h w ng = record {
       some = P .more 0 (inv .some);
       root = st 0 ∙ inv .root;
@@ -97,18 +97,18 @@ module _ (t : Model) where
           let c = inv .came k (down k l) nz in
           came-by t ms k (node ns k .parent) (node ns k .operator) (pa k) (op k) (P .more (node ns k .parent) (c .from)) (rw (st (node ns k .parent)) (c .applies))
           (rw (st (node ns k .parent), st k) (c .leads)) (rw (gs (node ns k .parent), gs k) (c .costs));
-      ways = λ k l. let v = inv .ways k (down k l) in (v .0, way-same ns ms (P .more) pa op k (v .0) (v .1));
+      paths = λ k l. let v = inv .paths k (down k l) in (v .0, path-same ns ms (P .more) pa op k (v .0) (v .1));
       low = λ k l. rw (gs k) (inv .low k (down k l));
       closed = λ k l. side k l (same-or-not k x);
     }
       where
         ms : List Node
-        ms = set ns x (taken (node ns x))
+        ms = set ns x (dequeued (node ns x))
 
-        P : Placed ns x (taken (node ns x)) ms
-        P = set-placed ns x (taken (node ns x)) (w .0)
+        P : Placed ns x (dequeued (node ns x)) ms
+        P = set-placed ns x (dequeued (node ns x)) (w .0)
 
-        kept : {A : Type 0} (f : Node → A) → f (taken (node ns x)) ≡ f (node ns x) → (j : ℕ) → f (node ms j) ≡ f (node ns j)
+        kept : {A : Type 0} (f : Node → A) → f (dequeued (node ns x)) ≡ f (node ns x) → (j : ℕ) → f (node ms j) ≡ f (node ns j)
         kept {A} f e j = go (same-or-not j x)
           where
             go : (j ≡ x) ⊎ (j ≢ x) → f (node ms j) ≡ f (node ns j)
@@ -130,11 +130,11 @@ module _ (t : Model) where
         down : (k : ℕ) → k < length ms → k < length ns
         down k l = simp length-set at l
 
-        moved : (k j : ℕ) → Down t ns k j → Down t ms k j
+        moved : (k j : ℕ) → Relaxed t ns k j → Relaxed t ms k j
         moved k j d = record { to = d .to; held = P .more (d .to) (d .held); leads = rw (st (d .to), st k) (d .leads); costs = rw (gs (d .to), gs k) (d .costs) }
 
-        other : (k : ℕ) → node ms k ≡ node ns k → Fair t (node ns k .state) (node ns k .wait) ⊎ Done t ns 0 (length (t .operators)) k →
-            Fair t (node ms k .state) (node ms k .wait) ⊎ Done t ms x 0 k
+        other : (k : ℕ) → node ms k ≡ node ns k → AdmissibleAt t (node ns k .state) (node ns k .queued) ⊎ Closed t ns 0 (length (t .operators)) k →
+            AdmissibleAt t (node ms k .state) (node ms k .queued) ⊎ Closed t ms x 0 k
         other k o (inl f) = inl (rw o f)
         other k o (inr d) = inr record {
           idle = rw o (d .idle);
@@ -142,18 +142,18 @@ module _ (t : Model) where
           down = λ j f a. let b : Applies t (node ns k .state) j = rw o at a in moved k j (d .down j (λ _. applies-below (node ns k .state) j b) b);
         }
 
-        side : (k : ℕ) → k < length ms → (k ≡ x) ⊎ (k ≢ x) → Fair t (node ms k .state) (node ms k .wait) ⊎ Done t ms x 0 k
+        side : (k : ℕ) → k < length ms → (k ≡ x) ⊎ (k ≢ x) → AdmissibleAt t (node ms k .state) (node ms k .queued) ⊎ Closed t ms x 0 k
         side k l (inl q) = inr record { idle = rw (q, P .here); short = rw (st k, q) ng; down = λ j f a. absurd (not-suc-le-zero (f q)) }
         side k l (inr d) = other k (P .others k d) (inv .closed k (down k l))
 
 -- set on the task at no more than its prices
-pub record Ready {E : Type 0} (est : Estimates E) (t : Model) (e : E) : Type 0 where
+pub record Ready {E : Type 0} (est : Kind E) (t : Model) (e : E) : Type 0 where
   pub held : List ℕ
   pub holds : est .holds e t held
   pub under : (i : ℕ) → getD held i 0 ≤ getD (prices t) i 0
 
-module _ {E : Type 0} (est : Estimates E) (lawful : Lawful est) (t : Model) (sound : WellFormed t) (N : ℕ) where
-  pub answer-fair : (e d : E) (s : List ℕ) (a : Option ℕ) → Ready est t e → IsState t s → est .answers e t s a d → Fair t s a
+module _ {E : Type 0} (est : Kind E) (lawful : Lawful est) (t : Model) (sound : WellFormed t) (N : ℕ) where
+  pub answer-fair : (e d : E) (s : List ℕ) (a : Option ℕ) → Ready est t e → IsState t s → est .answers e t s a d → AdmissibleAt t s a
   answer-fair e d s None r i q = lawful .admits (r .holds) i q
   answer-fair e d s (Some n) r i q = λ is p. omega (arith, lawful .admits (r .holds) i q is p, cost-le (r .held) (prices t) is (r .under))
 
@@ -163,27 +163,27 @@ module _ {E : Type 0} (est : Estimates E) (lawful : Lawful est) (t : Model) (sou
   -- what stands while the node x is expanded
   pub record Now (total x i : ℕ) (ns : List Node) (e : E) : Type 0 where
     pub inside : x < length ns
-    pub inv : Inv t ns x i
-    pub sums : Sums N (dearest (prices t)) total ns
+    pub inv : Invariant t ns x i
+    pub budget : Budget N (dearest (prices t)) total ns
     pub ready : Ready est t e
 
-  pub try-now : (total x i : ℕ) (ns ms : List Node) (e d : E) → Now total x i ns e → Try est t N x i ns e ms d → Now total x (suc i) ms d
-  try-now total x i ns ms e d n (skips na en ed) = record {
+  pub generate-now : (total x i : ℕ) (ns ms : List Node) (e d : E) → Now total x i ns e → Generates est t N x i ns e ms d → Now total x (suc i) ms d
+  generate-now total x i ns ms e d n (inapplicable na en ed) = record {
     inside = rw en (n .inside);
     inv = rw en (further t ns x i (n .inv) (λ a. absurd (na a)));
-    sums = rw en (n .sums);
+    budget = rw en (n .budget);
     ready = rw ed (n .ready);
   }
-  try-now total x i ns ms e d n (keeps k a hk le en ed) = record {
+  generate-now total x i ns ms e d n (notBetter k a hk le en ed) = record {
     inside = rw en (n .inside);
     inv = rw en (further t ns x i (n .inv) (λ _. record { to = k; held = hk .0; leads = hk .1; costs = le }));
-    sums = rw en (n .sums);
+    budget = rw en (n .budget);
     ready = rw ed (n .ready);
   }
-  try-now total x i ns ms e d n (betters k o a hk lt q en) = rw en record {
+  generate-now total x i ns ms e d n (reopens k o a hk lt q en) = rw en record {
     inside = P .more x (n .inside);
     inv = placed-further t sound ns (set ns k v) x i k o (n .inv) c P;
-    sums = sums-set N (dearest (prices t)) total ns k v (hk .0) lt (n .sums);
+    budget = budget-set N (dearest (prices t)) total ns k v (hk .0) lt (n .budget);
     ready = answer-ready e d s o (n .ready) q;
   }
     where
@@ -191,12 +191,12 @@ module _ {E : Type 0} (est : Estimates E) (lawful : Lawful est) (t : Model) (sou
       s = applied t (node ns x .state) i
 
       v : Node
-      v = made s (node ns x .g + getD (prices t) i 0) x i o
+      v = newNode s (node ns x .g + getD (prices t) i 0) x i o
 
       P : Placed ns k v (set ns k v)
       P = set-placed ns k v (hk .0)
 
-      c : Comes t ns x i k o
+      c : Placing t ns x i k o
       c = record {
         from = n .inside;
         applies = a;
@@ -211,10 +211,10 @@ module _ {E : Type 0} (est : Estimates E) (lawful : Lawful est) (t : Model) (sou
         where
           lower : (m : ℕ) → node ns x .g + getD (prices t) i 0 < node ns m .g → node ns x .g < node ns m .g
           lower m h = omega arith
-  try-now total x i ns ms e d n (adds o a nh lt q en) = rw en record {
+  generate-now total x i ns ms e d n (adds o a nh lt q en) = rw en record {
     inside = P .more x (n .inside);
     inv = placed-further t sound ns (ns ++ v ∷ []) x i (length ns) o (n .inv) c P;
-    sums = sums-add N (dearest (prices t)) total ns v lt lowly (n .sums);
+    budget = budget-add N (dearest (prices t)) total ns v lt lowly (n .budget);
     ready = answer-ready e d s o (n .ready) q;
   }
     where
@@ -222,7 +222,7 @@ module _ {E : Type 0} (est : Estimates E) (lawful : Lawful est) (t : Model) (sou
       s = applied t (node ns x .state) i
 
       v : Node
-      v = made s (node ns x .g + getD (prices t) i 0) x i o
+      v = newNode s (node ns x .g + getD (prices t) i 0) x i o
 
       P : Placed ns (length ns) v (ns ++ v ∷ [])
       P = add-placed ns v
@@ -230,7 +230,7 @@ module _ {E : Type 0} (est : Estimates E) (lawful : Lawful est) (t : Model) (sou
       lowly : node ns x .g + getD (prices t) i 0 ≤ length ns * dearest (prices t)
       lowly = omega (arith, n .inv .low x (n .inside), dearest-le (prices t) i, mul-le-mul-right (dearest (prices t)) (n .inside))
 
-      c : Comes t ns x i (length ns) o
+      c : Placing t ns x i (length ns) o
       c = record {
         from = n .inside;
         applies = a;
@@ -246,7 +246,7 @@ module _ {E : Type 0} (est : Estimates E) (lawful : Lawful est) (t : Model) (sou
           irr : length ns < length ns → ⊥
           irr f = omega arith
 
-  pub tries-now : (m total x i : ℕ) (ns ms : List Node) (e d : E) → Now total x i ns e → Tries est t N x i m ns e ms d → Now total x (m + i) ms d
-  tries-now zero total x i ns ms e d n r = rw (r .0, r .1) (subst (λ j. Now total x j ns e) (omega arith) n)
-  tries-now (suc m) total x i ns ms e d n r =
-      subst (λ j. Now total x j ms d) (omega arith) (tries-now m total x (suc i) (r .0) ms (r .1) d (try-now total x i ns (r .0) e (r .1) n (r .2)) (r .3))
+  pub generates-now : (m total x i : ℕ) (ns ms : List Node) (e d : E) → Now total x i ns e → GeneratesAll est t N x i m ns e ms d → Now total x (m + i) ms d
+  generates-now zero total x i ns ms e d n r = rw (r .0, r .1) (subst (λ j. Now total x j ns e) (omega arith) n)
+  generates-now (suc m) total x i ns ms e d n r =
+      subst (λ j. Now total x j ms d) (omega arith) (generates-now m total x (suc i) (r .0) ms (r .1) d (generate-now total x i ns (r .0) e (r .1) n (r .2)) (r .3))

@@ -13,7 +13,7 @@ causeOf (Set f) = f .cause
 abbrev pub faultNumber : Fault → ℕ
 faultNumber f = numberOf (causeOf f)
 
--- a fault of the search's own carries no values, one of the estimator's set its kind and its layer
+-- a fault of the search's own carries no values, one of the estimator's set its kindOf and its layer
 abbrev pub faultValues : Fault → List ℕ
 faultValues (Own c) = []
 faultValues (Set f) = f .kind ∷ f .layer ∷ []

@@ -1,39 +1,41 @@
--- Whole runs of calls, and the law of the search. Assumes nothing.
+-- Runs of calls, and the law of the search: what holds of every run, in words of plans, costs and reachable states.
 use mathlib.Core.Path.{_≡_}
 use mathlib.Core.Logic.{_≢_, _⊎_}
 use mathlib.Core.List.{List, [], _∷_, _++_}
 use Prim.Native.Nat.{ℕ, zero, suc, _+_, _-_, _*_, _<_, _≤_}
 use lib.ListN.{length, getD, drop}
 use Rattle.task.specs.Model.{Model, prices, Applies, applied, Plan, Reachable, Cost, dearest, WellFormed}
-use Rattle.plain.specs.Plain.{Estimates, Lawful, Plain, opened, Call, Call.advance, Call.write, Find, Node, node, Said, Said.more, Said.gave, Said.wrote, Said.no-plan, Said.no-room, Answer, Does}
+use Rattle.plain.specs.Plain.{Kind, Lawful, Plain, opened, Call, Call.advance, Call.write, Find, Node, node, Outcome, Outcome.more, Outcome.foundPlan, Outcome.written, Outcome.noPlan, Outcome.outOfRoom, Answer, Does}
 
-pub record Step : Type 0 where
+-- a call and its answer
+pub record Exchange : Type 0 where
   pub call : Call
   pub answer : Answer
 
 -- a run: the calls made and their answers, the latest first
 abbrev pub Run : Type 0
-Run = List Step
+Run = List Exchange
 
-abbrev pub Has : Run → Said → Type 0
-Has [] s = ⊥
-Has (x ∷ xs) s = (x .answer .said ≡ s) ⊎ Has xs s
+-- some call of the run had this outcome
+abbrev pub Answered : Run → Outcome → Type 0
+Answered [] o = ⊥
+Answered (x ∷ xs) o = (x .answer .outcome ≡ o) ⊎ Answered xs o
 
-abbrev pub last-bound : Run → ℕ
-last-bound [] = 0
-last-bound (x ∷ xs) = x .answer .bound
+abbrev pub lastBound : Run → ℕ
+lastBound [] = 0
+lastBound (x ∷ xs) = x .answer .bound
 
-abbrev pub last-total : Run → ℕ
-last-total [] = 0
-last-total (x ∷ xs) = x .answer .total
+abbrev pub lastTotal : Run → ℕ
+lastTotal [] = 0
+lastTotal (x ∷ xs) = x .answer .total
 
--- from a search just opened and the estimator's state e₀ the run leads to the plain state p and the estimator's state e
-abbrev pub Reached : {E : Type 0} → Estimates E → Model → ℕ → (List ℕ → ℕ → List ℕ) → E → Run → Plain → E → Type 0
+-- from a search just opened and the estimator's state e₀ the run leads to the search p and the estimator's state e
+abbrev pub Reached : {E : Type 0} → Kind E → Model → ℕ → (List ℕ → ℕ → List ℕ) → E → Run → Plain → E → Type 0
 Reached est t N text e₀ [] p e = (p ≡ opened) × (e ≡ e₀)
-Reached {E} est t N text e₀ (s ∷ run) p e = (q : Plain) × (d : E) × Reached est t N text e₀ run q d × Does est t N text (s .call) q d (s .answer) p e
+Reached {E} est t N text e₀ (x ∷ run) p e = (q : Plain) × (d : E) × Reached est t N text e₀ run q d × Does est t N text (x .call) q d (x .answer) p e
 
--- the N states of the nodes are different and reachable, and an operator leads from one of them to none of them
-pub record Filled (t : Model) (N : ℕ) (ns : List Node) : Type 0 where
+-- N different reachable states are held, and an operator leads from one of them to a state that is none of them
+pub record MemoryFull (t : Model) (N : ℕ) (ns : List Node) : Type 0 where
   pub count : length ns ≡ N
   pub different : (j k : ℕ) → j < N → k < N → node ns j .state ≡ node ns k .state → j ≡ k
   pub reached : (k : ℕ) → k < N → Reachable t (node ns k .state)
@@ -44,39 +46,46 @@ pub record Filled (t : Model) (N : ℕ) (ns : List Node) : Type 0 where
   pub outside : (k : ℕ) → k < N → node ns k .state ≢ applied t (node ns from .state) operator
 
 module _ (t : Model) (N : ℕ) (text : List ℕ → ℕ → List ℕ) where
-  -- a cheapest plan, whose cost is c, and whose text is each text of the run
-  pub record Best (run : Run) (c : ℕ) : Type 0 where
+  -- a plan of the cost c, whose text is every text that was written; every plan costs at least c
+  pub record Optimal (run : Run) (c : ℕ) : Type 0 where
     pub plan : List ℕ
     pub leads : Plan t (t .initial) plan
     pub costs : Cost (prices t) plan ≡ c
     pub cheapest : (is : List ℕ) → Plan t (t .initial) is → c ≤ Cost (prices t) is
-    pub texts : (w : List ℕ) → Has run (wrote w) → w ≡ text plan c
+    pub texts : (w : List ℕ) → Answered run (written w) → w ≡ text plan c
 
-  -- a buffer that a text was written into
-  pub record Begun (buffer after w : List ℕ) : Type 0 where
+  -- the buffer after a writing begins with the text, and is as before beyond it
+  pub record WrittenInto (buffer after w : List ℕ) : Type 0 where
     pub fits : length w ≤ length buffer
     pub is : after ≡ w ++ drop (length w) buffer
 
-  pub record Steady (s : Step) (before : Run) : Type 0 where
-    pub rises : last-bound before ≤ s .answer .bound
-    pub below : (is : List ℕ) → Plan t (t .initial) is → s .answer .bound ≤ Cost (prices t) is
-    pub counts : (n : ℕ) → s .call ≡ advance n → s .answer .said ≡ more → s .answer .total ≡ last-total before + n
-    pub total : s .answer .total ≤ N * ((N - 1) * dearest (prices t) + 1)
-    pub buffer : (f : Find) (b w : List ℕ) → s .call ≡ write f b → s .answer .said ≡ wrote w → Begun b (s .answer .after) w
+  -- one exchange, after the run before it: the bound never falls and no plan costs less; "more" after n is exactly n expansions;
+  -- the total keeps to its limit; an accepted writing writes nothing but the text
+  pub record AnswerLaw (x : Exchange) (before : Run) : Type 0 where
+    pub rises : lastBound before ≤ x .answer .bound
+    pub below : (is : List ℕ) → Plan t (t .initial) is → x .answer .bound ≤ Cost (prices t) is
+    pub counts : (n : ℕ) → x .call ≡ advance n → x .answer .outcome ≡ more → x .answer .total ≡ lastTotal before + n
+    pub total : x .answer .total ≤ N * ((N - 1) * dearest (prices t) + 1)
+    pub buffer : (f : Find) (b w : List ℕ) → x .call ≡ write f b → x .answer .outcome ≡ written w → WrittenInto b (x .answer .after) w
 
-  abbrev pub AllSteady : Run → Type 0
-  AllSteady [] = Unit {0}
-  AllSteady (s ∷ run) = Steady s run × AllSteady run
+  abbrev pub EveryAnswer : Run → Type 0
+  EveryAnswer [] = Unit {0}
+  EveryAnswer (x ∷ run) = AnswerLaw x run × EveryAnswer run
 
+  -- the law of a run that ends in the search p
   pub record Law (run : Run) (p : Plain) : Type 0 where
-    pub finds : (f : Find) → Has run (gave f) → Best run (f .cost)
-    pub writes : (w : List ℕ) → Has run (wrote w) → (f : Find) × Has run (gave f)
-    pub none : Has run no-plan → (is : List ℕ) → Plan t (t .initial) is → ⊥
-    pub full : Has run no-room → Filled t N (p .nodes)
-    pub steady : AllSteady run
+    -- "found" carries the cost of a plan that no plan undercuts, and every text written is that plan's
+    pub finds : (f : Find) → Answered run (foundPlan f) → Optimal run (f .cost)
+    -- no text is written without a find
+    pub writes : (w : List ℕ) → Answered run (written w) → (f : Find) × Answered run (foundPlan f)
+    -- "none" means that there is no plan
+    pub none : Answered run noPlan → (is : List ℕ) → Plan t (t .initial) is → ⊥
+    -- "full" means that N different reachable states are held, and one more is reachable
+    pub full : Answered run outOfRoom → MemoryFull t N (p .nodes)
+    pub every : EveryAnswer run
 
--- The law of the search: what holds of every run, over every estimator that keeps the laws.
-abbrev pub Search-law : {E : Type 0} → Estimates E → Type 0
-Search-law {E} est =
+-- The law of the search: over every estimator that keeps its laws, in whatever state it comes, the law holds of every run.
+abbrev pub SearchLaw : {E : Type 0} → Kind E → Type 0
+SearchLaw {E} est =
     Lawful est → (t : Model) → WellFormed t → (N : ℕ) (text : List ℕ → ℕ → List ℕ) (e₀ : E) (run : Run) (p : Plain) (e : E) →
     Reached est t N text e₀ run p e → Law t N text run p

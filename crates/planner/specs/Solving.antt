@@ -14,7 +14,7 @@ use Rattle.estimator.specs.declared.fault.SetFault.{SetFault}
 use Rattle.plain.specs.declared.fault.Fault.{Fault}
 use Rattle.plain.specs.declared.fault.Fault.the-variants.{Own, Set}
 use Rattle.plain.specs.Plain.{Node}
-use Rattle.plain.specs.Runs.{Filled}
+use Rattle.plain.specs.Runs.{MemoryFull}
 use Rattle.planner.specs.declared.solve.Solution.{Solution}
 use Rattle.planner.specs.declared.solve.Solution.the-variants as solution
 
@@ -33,7 +33,7 @@ TooShort T text buffer c = (c ≡ cause.Short) × ((p : List ℕ) × Cheapest T 
 abbrev pub Ended : Model → ℕ → (List ℕ → ℕ → List ℕ) → List ℕ → Solution → List ℕ → Type 0
 Ended T N text buffer (solution.Plan n) after = (p : List ℕ) × Cheapest T p × (n ≡ length (text p (cost T p))) × (after ≡ text p (cost T p) ++ drop n buffer)
 Ended T N text buffer solution.NoPlan after = ((p : List ℕ) → Plan T (T .initial) p → ⊥) × (after ≡ buffer)
-Ended T N text buffer solution.Full after = ((ns : List Node) × Filled T N ns) × (after ≡ buffer)
+Ended T N text buffer solution.Full after = ((ns : List Node) × MemoryFull T N ns) × (after ≡ buffer)
 Ended T N text buffer (solution.Refused (Own c)) after = TooShort T text buffer c × (after ≡ buffer)
 Ended T N text buffer (solution.Refused (Set f)) after = ⊥
 

@@ -6,9 +6,9 @@ ghost use lib.ListN.{length};
 ghost use Rattle.task.specs.Model.{model};
 ghost use Rattle.plain.specs.Plain.{opened, running};
 ghost use Rattle.plain.specs.Runs.{Run, Reached};
-ghost use Rattle.memory.specs.Steps.{kind};
+ghost use Rattle.memory.specs.Steps.{kindOf};
 ghost use Rattle.memory.specs.Plans.{planText};
-ghost use Rattle.search.specs.Search.{plain-of};
+ghost use Rattle.search.specs.Search.{plainOf};
 ghost use Rattle.planner.specs.Solving.{Solved, Ended, concluded};
 use estimator::estimator::Estimator;
 use plain::fault::Fault;
@@ -48,7 +48,7 @@ fn run_to_end<E: Estimator>(
     go: GoAhead,
     buffer: &mut [u8],
 ) -> Solution
-    ensures { λ r. ⌜ ((start : E) (run : Run) → Reached (kind (E·Estimator .unset) (E·Estimator .holds) (E·Estimator .sets) (E·Estimator .answers)) (model (now (search .entry) .task)) (now (search .entry) .core .memory .room) (planText (now (search .entry) .task)) start run (plain-of (now (search .entry) .core)) (now (estimator .entry)) → plain-of (now (search .entry) .core) .status ≡ running → Ended (model (now (search .entry) .task)) (now (search .entry) .core .memory .room) (planText (now (search .entry) .task)) (now (buffer .entry)) r (now (buffer .exit))) ⌝ }
+    ensures { λ r. ⌜ ((start : E) (run : Run) → Reached (kindOf (E·Estimator .unset) (E·Estimator .holds) (E·Estimator .sets) (E·Estimator .answers)) (model (now (search .entry) .task)) (now (search .entry) .core .memory .capacity) (planText (now (search .entry) .task)) start run (plainOf (now (search .entry) .core)) (now (estimator .entry)) → plainOf (now (search .entry) .core) .status ≡ running → Ended (model (now (search .entry) .task)) (now (search .entry) .core .memory .capacity) (planText (now (search .entry) .task)) (now (buffer .entry)) r (now (buffer .exit))) ⌝ }
 {
     let mut right = go;
     loop {
@@ -62,10 +62,7 @@ fn run_to_end<E: Estimator>(
             Progress::Found(find) => return conclude(search.write(find, buffer)),
             Progress::NoPlan => return Solution::NoPlan,
             Progress::Full => return Solution::Full,
-            Progress::Refused(cause, unused) => {
-                unused.spend();
-                return Solution::Refused(Fault::Own(cause));
-            }
+            Progress::Refused(cause, _) => return Solution::Refused(Fault::Own(cause)),
         }
     }
 }
@@ -77,7 +74,7 @@ pub fn solve<E: Estimator>(
     estimator: &mut E,
     buffer: &mut [u8],
 ) -> Solution
-    ensures { λ r. ⌜ (plain-of (now (search .entry) .core) ≡ opened → Solved (E·Estimator .sets) (model (now (search .entry) .task)) (now (search .entry) .core .memory .room) (planText (now (search .entry) .task)) (now (row .entry)) (now (estimator .entry)) (now (buffer .entry)) r (now (buffer .exit))) ⌝ }
+    ensures { λ r. ⌜ (plainOf (now (search .entry) .core) ≡ opened → Solved (E·Estimator .sets) (model (now (search .entry) .task)) (now (search .entry) .core .memory .capacity) (planText (now (search .entry) .task)) (now (row .entry)) (now (estimator .entry)) (now (buffer .entry)) r (now (buffer .exit))) ⌝ }
 {
     match search.start(row, estimator) {
         Ok(go) => run_to_end(search, estimator, go, buffer),

@@ -1,6 +1,5 @@
-pub mod Turning
+pub mod Stepping
 pub mod Advancing
-pub mod Starting
 pub mod Props
 pub mod Writing
 pub mod Replays

@@ -10,5 +10,5 @@ use Rattle.plain.specs.Plain as plain
 
 -- accepted, the text's length; refused, the cause; and the buffer after it
 abbrev pub Written : Result ℕ Cause → List ℕ → plain.Answer → Type 0
-Written (Ok n) buffer a = (w : List ℕ) × (a .said ≡ plain.wrote w) × (n ≡ length w) × (a .after ≡ buffer)
-Written (Err c) buffer a = (a .said ≡ plain.refusal c) × (a .after ≡ buffer)
+Written (Ok n) buffer a = (w : List ℕ) × (a .outcome ≡ plain.written w) × (n ≡ length w) × (a .after ≡ buffer)
+Written (Err c) buffer a = (a .outcome ≡ plain.refusal c) × (a .after ≡ buffer)

@@ -3,6 +3,7 @@ ghost use mathlib.Core.Path.{_≡_};
 use tables::cause::Cause;
 
 // The right to advance a running search. Only a start makes one, and an advance that ends the search uses it up.
+#[derive(Drop)]
 pub struct GoAhead {
     of: (),
 }
@@ -10,11 +11,6 @@ pub struct GoAhead {
 impl GoAhead {
     pub(crate) fn give() -> GoAhead {
         GoAhead { of: () }
-    }
-
-    // Lets the right go unused.
-    pub fn spend(self) {
-        let GoAhead { of: () } = self;
     }
 }
 
@@ -40,6 +36,7 @@ impl Find {
 }
 
 // What an advance comes to: the go-ahead comes back with More and with a refusal only.
+#[derive(Drop)]
 pub enum Progress {
     More(GoAhead),
     Found(Find),
@@ -49,6 +46,7 @@ pub enum Progress {
 }
 
 // An advance's answer, with the bound on the cost of every plan and the expansions made since opening.
+#[derive(Drop)]
 pub struct Advanced {
     pub progress: Progress,
     pub bound: u64,

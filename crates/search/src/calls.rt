@@ -6,10 +6,10 @@ ghost use lib.ListN.{length};
 ghost use Rattle.task.specs.Model.{model};
 ghost use Rattle.plain.specs.Plain.{Starts, Advances, Writes, Answer, reports, opened};
 ghost use Rattle.memory.specs.Capacity.{Capacity};
-ghost use Rattle.memory.specs.Rows.{Alike};
-ghost use Rattle.memory.specs.Steps.{kind};
+ghost use Rattle.memory.specs.Rows.{Untouched};
+ghost use Rattle.memory.specs.Steps.{kindOf};
 ghost use Rattle.memory.specs.Plans.{planText};
-ghost use Rattle.search.specs.Search.{plain-of, find-of, start-said, start-go, said-of, go-of};
+ghost use Rattle.search.specs.Search.{plainOf, findOf, startOutcome, startGoAhead, outcomeOf, goAheadOf};
 ghost use Rattle.search.specs.Plans.{Written};
 use crate::answer::Advanced;
 use crate::answer::Find;
@@ -35,11 +35,11 @@ impl<'a> Search<'a> {
         entries: &'a mut [SearchEntry],
         places: &'a mut [u32],
     ) -> Search<'a>
-        ensures fresh { λ r. ⌜ plain-of (r .core) ≡ opened ⌝ }
+        ensures fresh { λ r. ⌜ plainOf (r .core) ≡ opened ⌝ }
         ensures task { λ r. ⌜ r .task ≡ task .entry ⌝ }
         ensures nodes { λ r. ⌜ now (r .core .memory .nodes) ≡ now (nodes .entry) ⌝ }
         ensures states { λ r. ⌜ now (r .core .memory .states) ≡ now (states .entry) ⌝ }
-        ensures room { λ r. ⌜ Capacity (length (now (nodes .entry))) (length (now (states .entry))) (length (now (index .entry))) (length (now (entries .entry))) (length (now (places .entry))) (length (model (task .entry) .domains)) (r .core .memory .room) ⌝ }
+        ensures capacity { λ r. ⌜ Capacity (length (now (nodes .entry))) (length (now (states .entry))) (length (now (index .entry))) (length (now (entries .entry))) (length (now (places .entry))) (length (model (task .entry) .domains)) (r .core .memory .capacity) ⌝ }
     {
         let memory = Memory::open(nodes, states, index, entries, places, task.variables.len());
         let core = Core {
@@ -58,27 +58,32 @@ impl<'a> Search<'a> {
         estimator: &mut E,
     ) -> Result<GoAhead, Fault>
         ensures same { λ r. ⌜ now (self .exit) .task ≡ now (self .entry) .task ⌝ }
-        ensures alike { λ r. ⌜ Alike (now (self .entry) .core .memory) (now (self .exit) .core .memory) ⌝ }
-        ensures does { λ r. ⌜ Starts (kind (E·Estimator .unset) (E·Estimator .holds) (E·Estimator .sets) (E·Estimator .answers)) (model (now (self .entry) .task)) (now (self .entry) .core .memory .room) (now (row .entry)) (plain-of (now (self .entry) .core)) (now (estimator .entry)) (reports (start-said r) (now (row .exit)) (start-go r) (plain-of (now (self .exit) .core))) (plain-of (now (self .exit) .core)) (now (estimator .exit)) ⌝ }
+        ensures untouched { λ r. ⌜ Untouched (now (self .entry) .core .memory) (now (self .exit) .core .memory) ⌝ }
+        ensures does { λ r. ⌜ Starts (kindOf (E·Estimator .unset) (E·Estimator .holds) (E·Estimator .sets) (E·Estimator .answers)) (model (now (self .entry) .task)) (now (self .entry) .core .memory .capacity) (now (row .entry)) (plainOf (now (self .entry) .core)) (now (estimator .entry)) (reports (startOutcome r) (now (row .exit)) (startGoAhead r) (plainOf (now (self .exit) .core))) (plainOf (now (self .exit) .core)) (now (estimator .exit)) ⌝ }
     {
         let task = self.task;
         self.core.start(&task, row, estimator)
     }
 
-    // Makes n expansions, unless the search ends before.
-    pub fn advance<E: Estimator>(&mut self, estimator: &mut E, n: u64, go: GoAhead) -> Advanced
+    // Makes that many expansions, unless the search ends before.
+    pub fn advance<E: Estimator>(
+        &mut self,
+        estimator: &mut E,
+        expansions: u64,
+        go: GoAhead,
+    ) -> Advanced
         ensures same { λ r. ⌜ now (self .exit) .task ≡ now (self .entry) .task ⌝ }
-        ensures alike { λ r. ⌜ Alike (now (self .entry) .core .memory) (now (self .exit) .core .memory) ⌝ }
-        ensures does { λ r. ⌜ Advances (kind (E·Estimator .unset) (E·Estimator .holds) (E·Estimator .sets) (E·Estimator .answers)) (model (now (self .entry) .task)) (now (self .entry) .core .memory .room) n (plain-of (now (self .entry) .core)) (now (estimator .entry)) (reports (said-of (r .progress)) [] (go-of (r .progress)) (plain-of (now (self .exit) .core))) (plain-of (now (self .exit) .core)) (now (estimator .exit)) ⌝ }
+        ensures untouched { λ r. ⌜ Untouched (now (self .entry) .core .memory) (now (self .exit) .core .memory) ⌝ }
+        ensures does { λ r. ⌜ Advances (kindOf (E·Estimator .unset) (E·Estimator .holds) (E·Estimator .sets) (E·Estimator .answers)) (model (now (self .entry) .task)) (now (self .entry) .core .memory .capacity) expansions (plainOf (now (self .entry) .core)) (now (estimator .entry)) (reports (outcomeOf (r .progress)) [] (goAheadOf (r .progress)) (plainOf (now (self .exit) .core))) (plainOf (now (self .exit) .core)) (now (estimator .exit)) ⌝ }
         ensures tells { λ r. ⌜ (r .bound ≡ now (self .exit) .core .bound) × (r .total ≡ now (self .exit) .core .total) ⌝ }
     {
         let task = self.task;
-        self.core.advance(&task, estimator, n, go)
+        self.core.advance(&task, estimator, expansions, go)
     }
 
     // Writes the plan of a find into the buffer, and answers how many bytes it has.
     pub fn write(&self, find: Find, buffer: &mut [u8]) -> Result<usize, Cause>
-        ensures { λ r. ⌜ ((a : Answer) × Writes (planText (now (self .entry) .task)) (find-of find) (now (buffer .entry)) (plain-of (now (self .entry) .core)) a × Written r (now (buffer .exit)) a) ⌝ }
+        ensures { λ r. ⌜ ((a : Answer) × Writes (planText (now (self .entry) .task)) (findOf find) (now (buffer .entry)) (plainOf (now (self .entry) .core)) a × Written r (now (buffer .exit)) a) ⌝ }
     {
         let task = self.task;
         self.core.write(&task, find, buffer)

@@ -1,5 +1,5 @@
 ghost use Rattle.task.specs.Model.{model};
-ghost use Rattle.search.specs.Search.{Sane};
+ghost use Rattle.search.specs.Search.{Valid};
 use crate::core::Core;
 use task::task::Task;
 
@@ -8,5 +8,5 @@ use task::task::Task;
 pub struct Search<'a> {
     pub(crate) task: Task<'a>,
     pub(crate) core: Core<'a>,
-    ghost ok: { ∥ Sane (model task) core ∥₁ },
+    ghost ok: { ∥ Valid (model task) core ∥₁ },
 }

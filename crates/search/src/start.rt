@@ -5,10 +5,10 @@ ghost use Prim.Native.Nat.{ℕ, _+_, _<_, _≤_};
 ghost use lib.ListN.{length};
 ghost use Rattle.std.specs.declared.option.Option.{Option as Maybe};
 ghost use Rattle.task.specs.Model.{model};
-ghost use Rattle.plain.specs.Plain.{made, Starts, reports};
-ghost use Rattle.memory.specs.Rows.{Fine, Alike, nodes-of};
-ghost use Rattle.memory.specs.Steps.{kind};
-ghost use Rattle.search.specs.Search.{plain-of, Sane, start-said, start-go};
+ghost use Rattle.plain.specs.Plain.{newNode, Starts, reports};
+ghost use Rattle.memory.specs.Rows.{Consistent, Untouched, nodesOf};
+ghost use Rattle.memory.specs.Steps.{kindOf};
+ghost use Rattle.search.specs.Search.{plainOf, Valid, startOutcome, startGoAhead};
 use crate::answer::GoAhead;
 use crate::core::Core;
 use crate::core::Status;
@@ -18,34 +18,34 @@ use tables::cause::Cause;
 use task::task::Task;
 
 impl<'a> Core<'a> {
-    // Offers the task's prices to the estimator, and puts the initial state into the open list.
+    // Offers the task's prices to the estimator, and holds the initial state.
     pub fn start<E: Estimator>(
         &mut self,
         task: &Task<'_>,
         row: &mut [u32],
-        e: &mut E,
+        estimator: &mut E,
     ) -> Result<GoAhead, Fault>
-        requires { ⌜ Sane (model (now task)) (now self) ⌝ }
-        ensures sane { λ r. ⌜ Sane (model (now (task .entry))) (now (self .exit)) ⌝ }
-        ensures alike { λ r. ⌜ Alike (now (self .entry) .memory) (now (self .exit) .memory) ⌝ }
-        ensures does { λ r. ⌜ Starts (kind (E·Estimator .unset) (E·Estimator .holds) (E·Estimator .sets) (E·Estimator .answers)) (model (now (task .entry))) (now (self .entry) .memory .room) (now (row .entry)) (plain-of (now (self .entry))) (now (e .entry)) (reports (start-said r) (now (row .exit)) (start-go r) (plain-of (now (self .exit)))) (plain-of (now (self .exit))) (now (e .exit)) ⌝ }
+        requires { ⌜ Valid (model (now task)) (now self) ⌝ }
+        ensures valid { λ r. ⌜ Valid (model (now (task .entry))) (now (self .exit)) ⌝ }
+        ensures untouched { λ r. ⌜ Untouched (now (self .entry) .memory) (now (self .exit) .memory) ⌝ }
+        ensures does { λ r. ⌜ Starts (kindOf (E·Estimator .unset) (E·Estimator .holds) (E·Estimator .sets) (E·Estimator .answers)) (model (now (task .entry))) (now (self .entry) .memory .capacity) (now (row .entry)) (plainOf (now (self .entry))) (now (estimator .entry)) (reports (startOutcome r) (now (row .exit)) (startGoAhead r) (plainOf (now (self .exit)))) (plainOf (now (self .exit))) (now (estimator .exit)) ⌝ }
     {
         match self.status {
             Status::Fresh => {}
             _ => return Err(Fault::Own(Cause::Order)),
         }
-        if self.memory.room == 0 {
+        if self.memory.capacity == 0 {
             return Err(Fault::Own(Cause::Room));
         }
         if !task.prices_into(row) {
             return Err(Fault::Own(Cause::Row));
         }
-        if let Err(fault) = e.set(task, row, 1) {
+        if let Err(fault) = estimator.set(task, row, 1) {
             return Err(Fault::Set(fault));
         }
         let mut state = [0u8; 32];
-        let v = self.memory.vars;
-        self.memory.root(task, e, &mut state[0..v]);
+        let width = self.memory.variables;
+        self.memory.root(task, estimator, &mut state[0..width]);
         self.status = Status::Running;
         Ok(GoAhead::give())
     }

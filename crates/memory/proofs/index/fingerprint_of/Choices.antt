@@ -4,5 +4,5 @@ use lib.ListN.{drop}
 use Rattle.memory.specs.Index.{fingerprint}
 use Rattle.memory.proofs.index.fingerprint_of.Given as given
 
-abbrev pub Inv-loop-i : given.InvT-loop-i
-Inv-loop-i l = l .h ≡ fingerprint (drop (l .i) (l .state))
+abbrev pub Inv-loop-place : given.InvT-loop-place
+Inv-loop-place l = l .mixed ≡ fingerprint (drop (l .place) (l .state))

@@ -3,4 +3,4 @@ use Rattle.memory.proofs.Tables.{set-fields}
 use Rattle.memory.proofs.store.reopen.Needs as need
 
 pub returns : need.returns
-returns c = set-fields (c .args .nodes .now) (c .args .k) (c .args .new)
+returns c = set-fields (c .args .nodes .now) (c .args .node) (c .args .new)

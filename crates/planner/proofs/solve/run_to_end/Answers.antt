@@ -10,9 +10,9 @@ use Rattle.task.proofs.Actions.{task-well-formed}
 use Rattle.plain.specs.Plain as plain
 use Rattle.plain.specs.Plain.{Writes, reports}
 use Rattle.plain.specs.Runs.{Run, Reached}
-use Rattle.memory.specs.Steps.{kind}
+use Rattle.memory.specs.Steps.{kindOf}
 use Rattle.memory.specs.Plans.{planText}
-use Rattle.search.specs.Search.{plain-of, find-of, said-of, go-of}
+use Rattle.search.specs.Search.{plainOf, findOf, outcomeOf, goAheadOf}
 use Rattle.planner.specs.Solving.{Ended}
 use Rattle.planner.proofs.Ending.{advances-on, nearer, advance-more, advance-own, advance-none, advance-full, write-ends}
 use Rattle.planner.proofs.Limits.{within-limit-of}
@@ -25,16 +25,16 @@ loop-next-less g c =
     let s′ = c .advance-progress .last .self in
     let i = c .loop-next .inv in
     let x = c .advance-progress .ensures in
-    let est = kind (g .E·Estimator .unset) (g .E·Estimator .holds) (g .E·Estimator .sets) (g .E·Estimator .answers) in
-    let N = s₀ .core .memory .room in
-    let p = plain-of (s .core) in
-    let p′ = plain-of (s′ .core) in
+    let est = kindOf (g .E·Estimator .unset) (g .E·Estimator .holds) (g .E·Estimator .sets) (g .E·Estimator .answers) in
+    let N = s₀ .core .memory .capacity in
+    let p = plainOf (s .core) in
+    let p′ = plainOf (s′ .core) in
     let e = c .loop-next .estimator in
     let e′ = c .advance-progress .last .estimator in
     let r = c .advance-progress .result .progress in
-    let a = reports (said-of r) [] (go-of r) p′ in
-    let d = advances-on est (s .task) (s₀ .task) (s .core .memory .room) N 1000 p e a p′ e′ (i .0) (i .1) (x .does) in
-    let m = advance-more est (model (s₀ .task)) N (planText (s₀ .task)) 1000 p p′ e e′ a d (ap said-of (c .in-More .is)) in
+    let a = reports (outcomeOf r) [] (goAheadOf r) p′ in
+    let d = advances-on est (s .task) (s₀ .task) (s .core .memory .capacity) N 1000 p e a p′ e′ (i .0) (i .1) (x .does) in
+    let m = advance-more est (model (s₀ .task)) N (planText (s₀ .task)) 1000 p p′ e e′ a d (ap outcomeOf (c .in-More .is)) in
     let l = within-limit-of (s′ .task) (s₀ .task) (s′ .core) N (x .same ∙ i .0) (x .alike .room ∙ i .1) (s′ .ok) (m .0) in
     nearer (N * ((N - 1) * dearest (prices (model (s₀ .task))) + 1)) (s .core .total) (s′ .core .total) (m .1) l
 
@@ -45,16 +45,16 @@ loop-next-again g c =
     let s′ = c .advance-progress .last .self in
     let i = c .loop-next .inv in
     let x = c .advance-progress .ensures in
-    let est = kind (g .E·Estimator .unset) (g .E·Estimator .holds) (g .E·Estimator .sets) (g .E·Estimator .answers) in
-    let N = s₀ .core .memory .room in
-    let p = plain-of (s .core) in
-    let p′ = plain-of (s′ .core) in
+    let est = kindOf (g .E·Estimator .unset) (g .E·Estimator .holds) (g .E·Estimator .sets) (g .E·Estimator .answers) in
+    let N = s₀ .core .memory .capacity in
+    let p = plainOf (s .core) in
+    let p′ = plainOf (s′ .core) in
     let e = c .loop-next .estimator in
     let e′ = c .advance-progress .last .estimator in
     let r = c .advance-progress .result .progress in
-    let a = reports (said-of r) [] (go-of r) p′ in
-    let d = advances-on est (s .task) (s₀ .task) (s .core .memory .room) N 1000 p e a p′ e′ (i .0) (i .1) (x .does) in
-    let m = advance-more est (model (s₀ .task)) N (planText (s₀ .task)) 1000 p p′ e e′ a d (ap said-of (c .in-More .is)) in (
+    let a = reports (outcomeOf r) [] (goAheadOf r) p′ in
+    let d = advances-on est (s .task) (s₀ .task) (s .core .memory .capacity) N 1000 p e a p′ e′ (i .0) (i .1) (x .does) in
+    let m = advance-more est (model (s₀ .task)) N (planText (s₀ .task)) 1000 p p′ e e′ a d (ap outcomeOf (c .in-More .is)) in (
       x .same ∙ i .0,
       x .alike .room ∙ i .1,
       i .2,
@@ -70,19 +70,19 @@ returns-in-Found g c = λ start run h st.
     let s′ = c .advance-progress .last .self in
     let i = c .loop-next .inv in
     let x = c .advance-progress .ensures in
-    let est = kind (g .E·Estimator .unset) (g .E·Estimator .holds) (g .E·Estimator .sets) (g .E·Estimator .answers) in
-    let N = s₀ .core .memory .room in
-    let p = plain-of (s .core) in
-    let p′ = plain-of (s′ .core) in
+    let est = kindOf (g .E·Estimator .unset) (g .E·Estimator .holds) (g .E·Estimator .sets) (g .E·Estimator .answers) in
+    let N = s₀ .core .memory .capacity in
+    let p = plainOf (s .core) in
+    let p′ = plainOf (s′ .core) in
     let e = c .loop-next .estimator in
     let e′ = c .advance-progress .last .estimator in
     let r = c .advance-progress .result .progress in
-    let a = reports (said-of r) [] (go-of r) p′ in
-    let d = advances-on est (s .task) (s₀ .task) (s .core .memory .room) N 1000 p e a p′ e′ (i .0) (i .1) (x .does) in
+    let a = reports (outcomeOf r) [] (goAheadOf r) p′ in
+    let d = advances-on est (s .task) (s₀ .task) (s .core .memory .capacity) N 1000 p e a p′ e′ (i .0) (i .1) (x .does) in
     let v = i .3 start run h st in
-    let f = find-of (c .in-Found .find) in
+    let f = findOf (c .in-Found .find) in
     let text = planText (s₀ .task) in
-    let said = ap said-of (c .in-Found .is) in
+    let said = ap outcomeOf (c .in-Found .is) in
     let own = advance-own est (model (s₀ .task)) N text 1000 p p′ e e′ a f d said in
     let w = c .write .ensures in
     let writes = subst (λ z. Writes text f z p′ (w .0)) (i .2) (subst (λ z. Writes (planText z) f (c .loop-next .buffer) p′ (w .0)) (x .same ∙ i .0) (w .1)) in
@@ -96,17 +96,17 @@ returns-in-NoPlan g c = λ start run h st.
     let s′ = c .advance-progress .last .self in
     let i = c .loop-next .inv in
     let x = c .advance-progress .ensures in
-    let est = kind (g .E·Estimator .unset) (g .E·Estimator .holds) (g .E·Estimator .sets) (g .E·Estimator .answers) in
-    let N = s₀ .core .memory .room in
-    let p = plain-of (s .core) in
-    let p′ = plain-of (s′ .core) in
+    let est = kindOf (g .E·Estimator .unset) (g .E·Estimator .holds) (g .E·Estimator .sets) (g .E·Estimator .answers) in
+    let N = s₀ .core .memory .capacity in
+    let p = plainOf (s .core) in
+    let p′ = plainOf (s′ .core) in
     let e = c .loop-next .estimator in
     let e′ = c .advance-progress .last .estimator in
     let r = c .advance-progress .result .progress in
-    let a = reports (said-of r) [] (go-of r) p′ in
-    let d = advances-on est (s .task) (s₀ .task) (s .core .memory .room) N 1000 p e a p′ e′ (i .0) (i .1) (x .does) in
+    let a = reports (outcomeOf r) [] (goAheadOf r) p′ in
+    let d = advances-on est (s .task) (s₀ .task) (s .core .memory .capacity) N 1000 p e a p′ e′ (i .0) (i .1) (x .does) in
     let v = i .3 start run h st in
-    (advance-none est (model (s₀ .task)) N (planText (s₀ .task)) (g .E·Estimator .laws) (task-well-formed (s₀ .task)) start 1000 (v .0 .0) p p′ e e′ a (v .0 .1) d (ap said-of (c .in-NoPlan .is)), i .2)
+    (advance-none est (model (s₀ .task)) N (planText (s₀ .task)) (g .E·Estimator .laws) (task-well-formed (s₀ .task)) start 1000 (v .0 .0) p p′ e e′ a (v .0 .1) d (ap outcomeOf (c .in-NoPlan .is)), i .2)
 
 pub returns-in-Full : need.returns-in-Full
 returns-in-Full g c = λ start run h st.
@@ -115,14 +115,14 @@ returns-in-Full g c = λ start run h st.
     let s′ = c .advance-progress .last .self in
     let i = c .loop-next .inv in
     let x = c .advance-progress .ensures in
-    let est = kind (g .E·Estimator .unset) (g .E·Estimator .holds) (g .E·Estimator .sets) (g .E·Estimator .answers) in
-    let N = s₀ .core .memory .room in
-    let p = plain-of (s .core) in
-    let p′ = plain-of (s′ .core) in
+    let est = kindOf (g .E·Estimator .unset) (g .E·Estimator .holds) (g .E·Estimator .sets) (g .E·Estimator .answers) in
+    let N = s₀ .core .memory .capacity in
+    let p = plainOf (s .core) in
+    let p′ = plainOf (s′ .core) in
     let e = c .loop-next .estimator in
     let e′ = c .advance-progress .last .estimator in
     let r = c .advance-progress .result .progress in
-    let a = reports (said-of r) [] (go-of r) p′ in
-    let d = advances-on est (s .task) (s₀ .task) (s .core .memory .room) N 1000 p e a p′ e′ (i .0) (i .1) (x .does) in
+    let a = reports (outcomeOf r) [] (goAheadOf r) p′ in
+    let d = advances-on est (s .task) (s₀ .task) (s .core .memory .capacity) N 1000 p e a p′ e′ (i .0) (i .1) (x .does) in
     let v = i .3 start run h st in
-    ((p′ .nodes, advance-full est (model (s₀ .task)) N (planText (s₀ .task)) (g .E·Estimator .laws) (task-well-formed (s₀ .task)) start 1000 (v .0 .0) p p′ e e′ a (v .0 .1) d (ap said-of (c .in-Full .is))), i .2)
+    ((p′ .nodes, advance-full est (model (s₀ .task)) N (planText (s₀ .task)) (g .E·Estimator .laws) (task-well-formed (s₀ .task)) start 1000 (v .0 .0) p p′ e e′ a (v .0 .1) d (ap outcomeOf (c .in-Full .is))), i .2)

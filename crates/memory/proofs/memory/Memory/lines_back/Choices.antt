@@ -4,10 +4,10 @@ use mathlib.Core.List.{List, _++_}
 use Prim.Native.Nat.{ℕ, _+_, _<_}
 use lib.ListN.{length, drop}
 use Rattle.task.specs.Names.{operatorName}
-use Rattle.memory.specs.Rows.{nodes-of}
-use Rattle.memory.specs.Trees.{Branch}
+use Rattle.memory.specs.Rows.{nodesOf}
+use Rattle.memory.specs.Trees.{BranchTo}
 use Rattle.memory.specs.Plans.{lines}
 use Rattle.memory.proofs.memory.Memory.lines_back.Given as given
 
-abbrev pub Inv-loop-n : given.InvT-loop-n
-Inv-loop-n l = (l .k < l .self .held) × ((js : List ℕ) × Branch (nodes-of (l .self)) (l .k) (l .x) js × (length js ≡ l .n) × (l .at + length (lines (operatorName (l .task)) js) ≡ l .end) × (drop (l .at) (l .buffer) ≡ lines (operatorName (l .task)) js ++ drop (l .end) (l .entry .buffer)))
+abbrev pub Inv-loop-steps : given.InvT-loop-steps
+Inv-loop-steps l = (l .current < l .self .held) × ((js : List ℕ) × BranchTo (nodesOf (l .self)) (l .current) (l .node) js × (length js ≡ l .steps) × (l .at + length (lines (operatorName (l .task)) js) ≡ l .end) × (drop (l .at) (l .buffer) ≡ lines (operatorName (l .task)) js ++ drop (l .end) (l .entry .buffer)))

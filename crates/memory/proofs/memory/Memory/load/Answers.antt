@@ -1,3 +1,4 @@
+-- That the bytes of a held node lie inside the state bytes.
 use native.Mathlib.Omega.{arith}
 use native.Mathlib.Nat.{mul-le-mul-right}
 use mathlib.Core.Path.{_≡_, ap, _∙_}
@@ -8,5 +9,5 @@ use Rattle.memory.proofs.memory.Memory.load.Needs as need
 pub part-copy-from-slice-end : need.part-copy-from-slice-end
 part-copy-from-slice-end c =
     let m = c .args .self .now in
-    let l : c .args .k < m .room = omega (arith, c .pre .fine .within) in
-    omega (arith, c .pre .fine .roomy .states, mul-le-mul-right (m .vars) l)
+    let l : c .args .node < m .capacity = omega (arith, c .pre .consistent .within) in
+    omega (arith, c .pre .consistent .lent .states, mul-le-mul-right (m .variables) l)

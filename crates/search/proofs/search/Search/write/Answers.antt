@@ -1,5 +1,6 @@
-use Rattle.search.proofs.Props.{sane-out}
+-- That the ghost field gives what a writing asks.
+use Rattle.search.proofs.Props.{valid-out}
 use Rattle.search.proofs.search.Search.write.Needs as need
 
 pub write-requires : need.write-requires
-write-requires c κs = sane-out (c .args .self .now .ok)
+write-requires c κs = valid-out (c .args .self .now .ok)
