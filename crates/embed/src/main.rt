@@ -22,8 +22,17 @@ fn write_plan<W: Write>(out: &mut W, search: &Search, find: Find) -> io::Result<
 }
 
 // Advances the search once, and writes what it came to.
-fn advance<W: Write>(out: &mut W, search: &mut Search, estimator: &mut Blind, go: GoAhead) -> io::Result<()> {
-    let Advanced { progress, bound: _, total: _ } = search.advance(estimator, 10, go);
+fn advance<W: Write>(
+    out: &mut W,
+    search: &mut Search,
+    estimator: &mut Blind,
+    go: GoAhead,
+) -> io::Result<()> {
+    let Advanced {
+        progress,
+        bound: _,
+        total: _,
+    } = search.advance(estimator, 10, go);
     match progress {
         Progress::Found(find) => write_plan(out, search, find),
         Progress::NoPlan => out.write_all(b"no plan\n"),
@@ -34,12 +43,27 @@ fn advance<W: Write>(out: &mut W, search: &mut Search, estimator: &mut Blind, go
 }
 
 fn main(rt: LibcRuntime) -> io::Result<()> {
-    let mut nodes = [Node { g: 0, parent: 0, operator: 0 }; 4];
+    let mut nodes = [Node {
+        g: 0,
+        parent: 0,
+        operator: 0,
+    }; 4];
     let mut states = [0u8; 4];
     let mut index = [0u32; 8];
-    let mut entries = [SearchEntry { f: 0, estimate: 0, node: 0 }; 4];
+    let mut entries = [SearchEntry {
+        f: 0,
+        estimate: 0,
+        node: 0,
+    }; 4];
     let mut places = [0u32; 4];
-    let mut search = Search::open(Task::built_in(), &mut nodes, &mut states, &mut index, &mut entries, &mut places);
+    let mut search = Search::open(
+        Task::built_in(),
+        &mut nodes,
+        &mut states,
+        &mut index,
+        &mut entries,
+        &mut places,
+    );
     let mut estimator = Blind::new();
     let mut row: [u32; 0] = [];
     let mut out = rt.stdout();

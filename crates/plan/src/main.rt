@@ -17,7 +17,9 @@ const LONGEST: usize = 65536;
 fn write_answer<W: Write>(out: &mut W, answer: Answer, buffer: &[u8]) -> io::Result<()> {
     match answer {
         Answer::Unread(fault) => write_fault(out, fault),
-        Answer::Solved(Solution::Plan(length)) => out.write_all(&buffer[..length.min(buffer.len())]),
+        Answer::Solved(Solution::Plan(length)) => out.write_all(
+            &buffer[..length.min(buffer.len())],
+        ),
         Answer::Solved(Solution::NoPlan) => out.write_all(b"no plan\n"),
         Answer::Solved(Solution::Full) => out.write_all(b"full\n"),
         Answer::Solved(Solution::Refused(fault)) => write_cause(out, fault.cause()),

@@ -5,7 +5,6 @@ ghost use mathlib.Core.List.{List};
 ghost use Prim.Native.Nat.{ℕ};
 ghost use Rattle.std.specs.Vec.{made};
 ghost use Rattle.planner.specs.Planning.{Made, Answered};
-
 use super::patterns::pattern_length;
 use super::solve::Solution;
 use super::solve::solve;
@@ -28,16 +27,61 @@ use task::task::Task;
 
 // The numbers of all variables that a task can have.
 const VARIABLES: [u8; 32] = [
-    0, 1, 2, 3, 4, 5, 6, 7, 8, 9, 10, 11, 12, 13, 14, 15, 16, 17, 18, 19, 20, 21, 22, 23, 24, 25, 26, 27, 28, 29, 30, 31,
+    0,
+    1,
+    2,
+    3,
+    4,
+    5,
+    6,
+    7,
+    8,
+    9,
+    10,
+    11,
+    12,
+    13,
+    14,
+    15,
+    16,
+    17,
+    18,
+    19,
+    20,
+    21,
+    22,
+    23,
+    24,
+    25,
+    26,
+    27,
+    28,
+    29,
+    30,
+    31,
 ];
 
 // How many states the search holds, and how many ranks a projection has at most.
 const CAPACITY: usize = 2048;
+
 const RANKS: usize = 4096;
 
-const NO_NODE: Node = Node { g: 0, parent: 0, operator: 0 };
-const NO_RANK: RankEntry = RankEntry { distance: 0, rank: 0 };
-const NO_ENTRY: SearchEntry = SearchEntry { f: 0, estimate: 0, node: 0 };
+const NO_NODE: Node = Node {
+    g: 0,
+    parent: 0,
+    operator: 0,
+};
+
+const NO_RANK: RankEntry = RankEntry {
+    distance: 0,
+    rank: 0,
+};
+
+const NO_ENTRY: SearchEntry = SearchEntry {
+    f: 0,
+    estimate: 0,
+    node: 0,
+};
 
 // What planning a text comes to: the text's first fault, or what its task was solved to.
 #[derive(Clone, Copy)]
@@ -74,11 +118,15 @@ fn rank_space(heap: Global) -> Result<RankSpace, AllocError> {
     let table = vec![in heap; 0u32; RANKS]?;
     let ranks = vec![in heap; NO_RANK; RANKS]?;
     let places = vec![in heap; 0u32; RANKS]?;
-    Ok(RankSpace { table, ranks, places })
+    Ok(RankSpace {
+        table,
+        ranks,
+        places,
+    })
 }
 
 // Memory for records of every task and a search of 2,048 states, and a copy of the text.
-fn workspace(heap: Global, text: &[u8]) -> Result<Workspace, AllocError>
+fn make_workspace(heap: Global, text: &[u8]) -> Result<Workspace, AllocError>
     ensures { λ r. ⌜ made r (λ w. Made (now (text .entry)) w) ⌝ }
 {
     let copy = text.to_vec(heap)?;
@@ -91,28 +139,76 @@ fn workspace(heap: Global, text: &[u8]) -> Result<Workspace, AllocError>
     let waiting = vec![in heap; NO_ENTRY; CAPACITY]?;
     let places = vec![in heap; 0u32; CAPACITY]?;
     let prices = vec![in heap; 0u32; 256]?;
-    Ok(Workspace { text: copy, variables, operators, entries, nodes, states, index, waiting, places, prices })
+    Ok(Workspace {
+        text: copy,
+        variables,
+        operators,
+        entries,
+        nodes,
+        states,
+        index,
+        waiting,
+        places,
+        prices,
+    })
 }
 
 // Reads the workspace's text, solves its task, and writes the plan into the buffer.
 fn plan_in(space: Workspace, first: RankSpace, second: RankSpace, buffer: &mut [u8]) -> Answer
     ensures { λ r. ⌜ ((text : List ℕ) → Made text space → Answered text (now (buffer .entry)) r (now (buffer .exit))) ⌝ }
 {
-    let Workspace { text, mut variables, mut operators, mut entries, mut nodes, mut states, mut index, mut waiting, mut places, mut prices } = space;
-    let RankSpace { mut table, mut ranks, places: mut rank_places } = first;
-    let RankSpace { table: mut more_table, ranks: mut more_ranks, places: mut more_places } = second;
+    let Workspace {
+        text,
+        mut variables,
+        mut operators,
+        mut entries,
+        mut nodes,
+        mut states,
+        mut index,
+        mut waiting,
+        mut places,
+        mut prices,
+    } = space;
+    let RankSpace {
+        mut table,
+        mut ranks,
+        places: mut rank_places,
+    } = first;
+    let RankSpace {
+        table: mut more_table,
+        ranks: mut more_ranks,
+        places: mut more_places,
+    } = second;
     let mut task = Task::built_in();
-    let loaded = load(&mut task, &text, &mut variables, &mut operators, &mut entries);
+    let loaded = load(
+        &mut task,
+        &text,
+        &mut variables,
+        &mut operators,
+        &mut entries,
+    );
     if let Err(fault) = loaded {
         return Answer::Unread(fault);
     }
     let one = pattern_length(&task, 0);
     let two = one + pattern_length(&task, one);
     let left = Projection::new(&VARIABLES[0..one], &mut table, &mut ranks, &mut rank_places);
-    let right = Projection::new(&VARIABLES[one..two], &mut more_table, &mut more_ranks, &mut more_places);
+    let right = Projection::new(
+        &VARIABLES[one..two],
+        &mut more_table,
+        &mut more_ranks,
+        &mut more_places,
+    );
     let mut estimator = Partition::new(left, right);
     let count = task.operator_count().min(prices.len());
-    let mut search = Search::open(task, &mut nodes, &mut states, &mut index, &mut waiting, &mut places);
+    let mut search = Search::open(
+        task,
+        &mut nodes,
+        &mut states,
+        &mut index,
+        &mut waiting,
+        &mut places,
+    );
     Answer::Solved(solve(&mut search, &mut prices[0..count], &mut estimator, buffer))
 }
 
@@ -120,7 +216,7 @@ fn plan_in(space: Workspace, first: RankSpace, second: RankSpace, buffer: &mut [
 pub fn plan(heap: Global, text: &[u8], buffer: &mut [u8]) -> Result<Answer, AllocError>
     ensures { λ r. ⌜ made r (λ a. Answered (now (text .entry)) (now (buffer .entry)) a (now (buffer .exit))) ⌝ }
 {
-    let space = workspace(heap, text)?;
+    let space = make_workspace(heap, text)?;
     let first = rank_space(heap)?;
     let second = rank_space(heap)?;
     Ok(plan_in(space, first, second, buffer))

@@ -90,7 +90,13 @@ fn main(rt: LibcRuntime) -> Result<(), AnyError> {
     let mut entries = vec![in heap; Entry::ZERO; 4096]?;
     let mut task = Task::built_in();
     let mut out = rt.stdout();
-    if let Err(fault) = load(&mut task, &text, &mut variables, &mut operators, &mut entries) {
+    if let Err(fault) = load(
+        &mut task,
+        &text,
+        &mut variables,
+        &mut operators,
+        &mut entries,
+    ) {
         write_fault(&mut out, fault)?;
         return Ok(());
     }

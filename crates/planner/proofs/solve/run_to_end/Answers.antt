@@ -35,7 +35,7 @@ loop-next-less g c =
     let a = reports (outcomeOf r) [] (goAheadOf r) p′ in
     let d = advances-on est (s .task) (s₀ .task) (s .core .memory .capacity) N 1000 p e a p′ e′ (i .0) (i .1) (x .does) in
     let m = advance-more est (model (s₀ .task)) N (planText (s₀ .task)) 1000 p p′ e e′ a d (ap outcomeOf (c .in-More .is)) in
-    let l = within-limit-of (s′ .task) (s₀ .task) (s′ .core) N (x .same ∙ i .0) (x .alike .room ∙ i .1) (s′ .ok) (m .0) in
+    let l = within-limit-of (s′ .task) (s₀ .task) (s′ .core) N (x .same ∙ i .0) (x .untouched .capacity ∙ i .1) (s′ .ok) (m .0) in
     nearer (N * ((N - 1) * dearest (prices (model (s₀ .task))) + 1)) (s .core .total) (s′ .core .total) (m .1) l
 
 pub loop-next-again : need.loop-next-again
@@ -56,7 +56,7 @@ loop-next-again g c =
     let d = advances-on est (s .task) (s₀ .task) (s .core .memory .capacity) N 1000 p e a p′ e′ (i .0) (i .1) (x .does) in
     let m = advance-more est (model (s₀ .task)) N (planText (s₀ .task)) 1000 p p′ e e′ a d (ap outcomeOf (c .in-More .is)) in (
       x .same ∙ i .0,
-      x .alike .room ∙ i .1,
+      x .untouched .capacity ∙ i .1,
       i .2,
       λ start run h st.
           let v = i .3 start run h st in

@@ -25,7 +25,7 @@ returns-in-Ok g c = λ o.
     let r = c .start .result in
     let v = start-reached est (model t₀) N₀ (planText t₀) (c .args .row .now) (plainOf (s₀ .core)) p e₀ e (reports (startOutcome r) (c .start .last .row) (startGoAhead r) p) o (x .does) (ap startOutcome (c .in-Ok .is)) in
     let run = v .0 .0 in
-    let h = subst (λ n. Reached est (model (s .task)) n (planText (s .task)) e₀ run p e) (sym (x .alike .capacity)) (subst (λ z. Reached est (model z) N₀ (planText z) e₀ run p e) (sym (x .same)) (v .0 .1)) in
+    let h = subst (λ n. Reached est (model (s .task)) n (planText (s .task)) e₀ run p e) (sym (x .untouched .capacity)) (subst (λ z. Reached est (model z) N₀ (planText z) e₀ run p e) (sym (x .same)) (v .0 .1)) in
     let ends = c .run-to-end .ensures e₀ run h (v .1) in
     inl (subst (λ z. Ended (model z) N₀ (planText z) (c .args .buffer .now) (c .run-to-end .result) (c .run-to-end .last .buffer)) (x .same)
-    (subst (λ n. Ended (model (s .task)) n (planText (s .task)) (c .args .buffer .now) (c .run-to-end .result) (c .run-to-end .last .buffer)) (x .alike .capacity) ends))
+    (subst (λ n. Ended (model (s .task)) n (planText (s .task)) (c .args .buffer .now) (c .run-to-end .result) (c .run-to-end .last .buffer)) (x .untouched .capacity) ends))
