@@ -43,8 +43,8 @@ pub struct Queue<'a, T> {
 
 // The place of an item's entry, if it has one.
 fn locate<T: QueueEntry>(entries: &[T], places: &[u32], len: usize, item: u32) -> Option<usize>
-    requires { Indexed item_of entries.now places.now len }
-    ensures { Located item_of entries.now len item result }
+    requires { Indexed T.item_of entries.now places.now len }
+    ensures { Located T.item_of entries.now len item result }
 {
     let k = item as usize;
     if k >= places.len() {
@@ -65,7 +65,7 @@ fn locate<T: QueueEntry>(entries: &[T], places: &[u32], len: usize, item: u32) -
 fn in_order<T: QueueEntry>(entries: &[T], a: usize, b: usize) -> bool
     requires a_in { a < length entries.now }
     requires b_in { b < length entries.now }
-    ensures { (d : T) → no_later (slice_index_or entries.now a d) (slice_index_or entries.now b d) ≡ result }
+    ensures { (d : T) → T.no_later (slice_index_or entries.now a d) (slice_index_or entries.now b d) ≡ result }
 {
     let x = entries[a];
     let y = entries[b];
@@ -75,8 +75,8 @@ fn in_order<T: QueueEntry>(entries: &[T], a: usize, b: usize) -> bool
 impl<'a, T: QueueEntry> Queue<'a, T> {
     // An empty queue over two slices, which may hold anything.
     pub fn new(entries: &'a mut [T], places: &'a mut [u32]) -> Self
-        ensures sound { Sound item_of no_later result }
-        ensures empty { (k : ℕ) → content item_of result k ≡ None }
+        ensures sound { Sound T.item_of T.no_later result }
+        ensures empty { (k : ℕ) → content T.item_of result k ≡ None }
         ensures len { result.len ≡ 0 }
         ensures entries { result.entries.now ≡ entries.old }
         ensures places { result.places.now ≡ places.old }
@@ -97,10 +97,10 @@ impl<'a, T: QueueEntry> Queue<'a, T> {
 
     // Adds an entry, or puts it in the place of the one of its item.
     pub fn put(&mut self, entry: T) -> Result<(), Cause>
-        requires { Sound item_of no_later self.old }
-        ensures sound { Sound item_of no_later self.new }
+        requires { Sound T.item_of T.no_later self.old }
+        ensures sound { Sound T.item_of T.no_later self.new }
         ensures rows { Rows self.old self.new }
-        ensures put { Put item_of entry self.old self.new result }
+        ensures put { Put T.item_of entry self.old self.new result }
     {
         let item = entry.item();
         let k = item as usize;
@@ -122,11 +122,11 @@ impl<'a, T: QueueEntry> Queue<'a, T> {
 
     // Removes the entry of an item, if there is one.
     pub fn drop_item(&mut self, item: u32)
-        requires { Sound item_of no_later self.old }
-        ensures sound { Sound item_of no_later self.new }
+        requires { Sound T.item_of T.no_later self.old }
+        ensures sound { Sound T.item_of T.no_later self.new }
         ensures rows { Rows self.old self.new }
-        ensures dropped { Changed item_of self.old self.new item None }
-        ensures resized { Resized item_of self.old self.new item None }
+        ensures dropped { Changed T.item_of self.old self.new item None }
+        ensures resized { Resized T.item_of self.old self.new item None }
     {
         let Some(place) = self.place_of(item) else {
             return;
@@ -136,10 +136,10 @@ impl<'a, T: QueueEntry> Queue<'a, T> {
 
     // Takes out the first entry.
     pub fn take(&mut self) -> Option<T>
-        requires { Sound item_of no_later self.old }
-        ensures sound { Sound item_of no_later self.new }
+        requires { Sound T.item_of T.no_later self.old }
+        ensures sound { Sound T.item_of T.no_later self.new }
         ensures rows { Rows self.old self.new }
-        ensures taken { Taken item_of no_later self.old self.new result }
+        ensures taken { Taken T.item_of T.no_later self.old self.new result }
     {
         if self.len == 0 {
             return None;
@@ -150,20 +150,20 @@ impl<'a, T: QueueEntry> Queue<'a, T> {
     }
 
     fn place_of(&self, item: u32) -> Option<usize>
-        requires { Indexed item_of self.now.entries.now self.now.places.now self.now.len }
-        ensures { Located item_of self.now.entries.now self.now.len item result }
+        requires { Indexed T.item_of self.now.entries.now self.now.places.now self.now.len }
+        ensures { Located T.item_of self.now.entries.now self.now.len item result }
     {
         locate(self.entries, self.places, self.len, item)
     }
 
     // Removes the entry at a place: the last entry goes where it stood.
     fn remove_at(&mut self, place: usize)
-        requires sound { Sound item_of no_later self.old }
+        requires sound { Sound T.item_of T.no_later self.old }
         requires within { place < self.old.len }
-        ensures sound { Sound item_of no_later self.new }
+        ensures sound { Sound T.item_of T.no_later self.new }
         ensures rows { Rows self.old self.new }
         ensures len { self.new.len + 1 ≡ self.old.len }
-        ensures changed { (d : T) → Changed item_of self.old self.new (item_of (slice_index_or self.old.entries.now place d)) None }
+        ensures changed { (d : T) → Changed T.item_of self.old self.new (T.item_of (slice_index_or self.old.entries.now place d)) None }
     {
         let last = self.len - 1;
         self.len = last;
@@ -176,9 +176,9 @@ impl<'a, T: QueueEntry> Queue<'a, T> {
 
     // Puts an entry in the place of the one that stands there, and sifts it to where it belongs.
     fn refill(&mut self, place: usize, sifted: T)
-        requires hole { Hole item_of self.old place sifted }
-        requires ordered { HeapOrdered no_later self.old.entries.now self.old.len }
-        ensures { Filled item_of no_later self.old self.new place sifted }
+        requires hole { Hole T.item_of self.old place sifted }
+        requires ordered { HeapOrdered T.no_later self.old.entries.now self.old.len }
+        ensures { Filled T.item_of T.no_later self.old self.new place sifted }
     {
         let replaced = self.entries[place];
         if sifted.no_later_than(&replaced) {
@@ -190,9 +190,9 @@ impl<'a, T: QueueEntry> Queue<'a, T> {
 
     // Moves later parents down into the hole until the entry fits.
     fn sift_up(&mut self, place: usize, sifted: T)
-        requires hole { Hole item_of self.old place sifted }
-        requires ordered { OrderedButAbove no_later (slice_set self.old.entries.now place sifted) self.old.len place }
-        ensures { Filled item_of no_later self.old self.new place sifted }
+        requires hole { Hole T.item_of self.old place sifted }
+        requires ordered { OrderedButAbove T.no_later (slice_set self.old.entries.now place sifted) self.old.len place }
+        ensures { Filled T.item_of T.no_later self.old self.new place sifted }
     {
         let item = sifted.item() as usize;
         let mut hole = place;
@@ -213,9 +213,9 @@ impl<'a, T: QueueEntry> Queue<'a, T> {
 
     // Moves earlier children up into the hole until the entry fits.
     fn sift_down(&mut self, place: usize, sifted: T)
-        requires hole { Hole item_of self.old place sifted }
-        requires ordered { OrderedButBelow no_later (slice_set self.old.entries.now place sifted) self.old.len place }
-        ensures { Filled item_of no_later self.old self.new place sifted }
+        requires hole { Hole T.item_of self.old place sifted }
+        requires ordered { OrderedButBelow T.no_later (slice_set self.old.entries.now place sifted) self.old.len place }
+        ensures { Filled T.item_of T.no_later self.old self.new place sifted }
     {
         let item = sifted.item() as usize;
         let mut hole = place;
@@ -238,7 +238,7 @@ impl<'a, T: QueueEntry> Queue<'a, T> {
     fn least_child(&self, place: usize) -> usize
         requires fits { self.now.len ≤ length self.now.entries.now }
         requires inner { 2 * place + 1 < self.now.len }
-        ensures { LeastChild no_later self.now.entries.now self.now.len place result }
+        ensures { LeastChild T.no_later self.now.entries.now self.now.len place result }
     {
         let left = 2 * place + 1;
         let right = left + 1;

@@ -9,6 +9,6 @@ returns c =
     let v = c.args.variable in
     let goal = c.args.task.now.goal.now in
     record {
-      needed = λ x h. subst (Admits x) (sym c.value-on.ensures) (value-needed v x goal h);
-      enough = λ x h. value-enough v x goal c.args.task.now.goal_distinct (subst (Admits x) c.value-on.ensures h);
+      needed = λ x h. subst (Admits x) (sym c.value_on.ensures) (value-needed v x goal h);
+      enough = λ x h. value-enough v x goal c.args.task.now.goal_distinct (subst (Admits x) c.value_on.ensures h);
     }

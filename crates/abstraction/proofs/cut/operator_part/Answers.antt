@@ -8,12 +8,12 @@ use Rattle.abstraction.proofs.cut.operator_part.Goals as goal
 pub returns-in-Some : goal.returns-in-Some
 returns-in-Some c =
     let t = c.args.task.now in
-    let e = c.effect-on-effect.ensures in
+    let e = c.effect_on-effect.ensures in
     subst (PartOf (operator (model t) c.args.operator) c.args.variable (get_or (model t).domains c.args.variable 0)) (sym e)
     (part-effect t c.args.operator c.args.variable _ c.requires (sym (ap (λ z. z.value) e) ∙ c.in-Some.is))
 
 pub returns : goal.returns
 returns c =
     let t = c.args.task.now in
-    let e = c.effect-on-effect.ensures in
-    part-condition t c.args.operator c.args.variable c.value-on.result c.requires (sym (ap (λ z. z.value) e) ∙ c.in-default.is) c.value-on.ensures
+    let e = c.effect_on-effect.ensures in
+    part-condition t c.args.operator c.args.variable c.value_on.result c.requires (sym (ap (λ z. z.value) e) ∙ c.in_default.is) c.value_on.ensures

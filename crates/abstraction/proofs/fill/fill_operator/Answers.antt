@@ -12,8 +12,8 @@ loop-place-preserved c =
     let o = c.args.operator in
     let i = c.loop-place.place in
     let xs = c.loop-place.parts in (
-      filled_more (λ k x. PartOf (operator T o) (get_or P k 0) (get_or T.domains (get_or P k 0) 0) x) xs (8 * o) i c.operator-part.result untouched (omega arith) c.loop-place.invariant.0 c.operator-part.ensures,
-      λ k h. let apart : k ≢ 8 * o + i = omega arith in get_or-set_other xs (8 * o + i) k c.operator-part.result untouched apart ∙ c.loop-place.invariant.1 k h,
+      filled_more (λ k x. PartOf (operator T o) (get_or P k 0) (get_or T.domains (get_or P k 0) 0) x) xs (8 * o) i c.operator_part.result untouched (omega arith) c.loop-place.invariant.0 c.operator_part.ensures,
+      λ k h. let apart : k ≢ 8 * o + i = omega arith in get_or-set_other xs (8 * o + i) k c.operator_part.result untouched apart ∙ c.loop-place.invariant.1 k h,
     )
 
 pub returns : goal.returns

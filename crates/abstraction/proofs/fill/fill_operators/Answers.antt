@@ -11,10 +11,10 @@ loop-operator-preserved c = λ o i h l.
     let P = c.args.pattern.now in
     let few = c.requires.few in
     ⊎_elim
-    (λ (e : o ≡ c.loop-operator.operator). subst (λ z. PartOf (operator T z) (get_or P i 0) (get_or T.domains (get_or P i 0) 0) (get_or c.fill-operator.new.parts (8 * z + i) untouched)) (sym e) (c.fill-operator.ensures.parts i l))
+    (λ (e : o ≡ c.loop-operator.operator). subst (λ z. PartOf (operator T z) (get_or P i 0) (get_or T.domains (get_or P i 0) 0) (get_or c.fill_operator.new.parts (8 * z + i) untouched)) (sym e) (c.fill_operator.ensures.parts i l))
     (λ (ne : o ≡ c.loop-operator.operator → ⊥).
     let less : 8 * o + i < 8 * c.loop-operator.operator = omega arith in
-    subst (PartOf (operator T o) (get_or P i 0) (get_or T.domains (get_or P i 0) 0)) (sym (c.fill-operator.ensures.before (8 * o + i) less)) (c.loop-operator.invariant o i (omega arith) l))
+    subst (PartOf (operator T o) (get_or P i 0) (get_or T.domains (get_or P i 0) 0)) (sym (c.fill_operator.ensures.before (8 * o + i) less)) (c.loop-operator.invariant o i (omega arith) l))
     (cases_eq o c.loop-operator.operator)
 
 pub returns : goal.returns

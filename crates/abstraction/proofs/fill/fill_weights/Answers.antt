@@ -10,8 +10,8 @@ use Rattle.abstraction.proofs.fill.fill_weights.Goals as goal
 pub loop-place-preserved : goal.loop-place-preserved
 loop-place-preserved c =
     let T = model c.args.task.now in
-    filled-more-0 (λ k x. x ≡ min (product (sizes T (drop (k + 1) c.args.pattern.now))) 4294967295) c.loop-place.weights c.loop-place.place c.rank-count.result 0 (omega arith) c.loop-place.invariant
-    (c.rank-count.ensures ∙ ap (λ z. min (product (sizes T z)) 4294967295) (take_rest c.args.pattern.now (c.loop-place.place + 1)))
+    filled-more-0 (λ k x. x ≡ min (product (sizes T (drop (k + 1) c.args.pattern.now))) 4294967295) c.loop-place.weights c.loop-place.place c.rank_count.result 0 (omega arith) c.loop-place.invariant
+    (c.rank_count.ensures ∙ ap (λ z. min (product (sizes T z)) 4294967295) (take_rest c.args.pattern.now (c.loop-place.place + 1)))
 
 pub returns : goal.returns
 returns c = λ i h. c.loop-place.invariant i (omega arith)

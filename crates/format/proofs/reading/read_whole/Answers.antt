@@ -13,23 +13,23 @@ use Rattle.tables.specs.declared.records.Counts.{Counts}
 use Rattle.format.specs.Views.{answered_body, answered_whole}
 use Rattle.format.proofs.reading.read_whole.Goals as goal
 
-pub returns-in-err-heading : goal.returns-in-err-heading
+pub returns-in_err-heading : goal.returns-in_err-heading
 unfolding whole_of
-returns-in-err-heading c =
-    let p = err_from_is_err_and c.from-residual.result c.from-residual.ensures.1 in
-    record { reads = rw (p.1, p.2, c.in-err-heading.ensures); room = rw p.1 tt }
+returns-in_err-heading c =
+    let p = err_from_is_err_and c.from_residual.result c.from_residual.ensures.1 in
+    record { reads = rw (p.1, p.2, c.in_err-heading.ensures); room = rw p.1 tt }
 
-pub returns-in-err-count : goal.returns-in-err-count
+pub returns-in_err-count : goal.returns-in_err-count
 unfolding whole_of
-returns-in-err-count c =
-    let p = err_from_is_err_and c.from-residual-in-err-count.result c.from-residual-in-err-count.ensures.1 in
-    record { reads = rw (p.1, p.2, c.in-ok-heading.ensures, c.in-err-count.ensures.reads); room = rw p.1 tt }
+returns-in_err-count c =
+    let p = err_from_is_err_and c.from_residual-in_err-count.result c.from_residual-in_err-count.ensures.1 in
+    record { reads = rw (p.1, p.2, c.in_ok-heading.ensures, c.in_err-count.ensures.reads); room = rw p.1 tt }
 
-pub returns-in-err-variable-list : goal.returns-in-err-variable-list
+pub returns-in_err-variable_list : goal.returns-in_err-variable_list
 unfolding whole_of
-returns-in-err-variable-list c =
-    let p = err_from_is_err_and c.from-residual-in-err-variable-list.result c.from-residual-in-err-variable-list.ensures.1 in
-    record { reads = rw (p.1, p.2, c.in-ok-heading.ensures, c.in-ok-count.ensures.reads, c.in-err-variable-list.ensures.reads); room = rw p.1 tt }
+returns-in_err-variable_list c =
+    let p = err_from_is_err_and c.from_residual-in_err-variable_list.result c.from_residual-in_err-variable_list.ensures.1 in
+    record { reads = rw (p.1, p.2, c.in_ok-heading.ensures, c.in_ok-count.ensures.reads, c.in_err-variable_list.ensures.reads); room = rw p.1 tt }
 
 whole-from-body : (r : Result Counts Fault) (vs more : List Variable) (os : List Operator) (es : List Entry) (l : Cursor) → IfOk r (λ n. (n.variables ≡ length vs) × (n.operators ≤ length os) × (n.entries ≤ length es)) → answered_body r vs os es l ≡ answered_whole r (vs ++ more) os es l
 whole-from-body (Ok n) vs more os es l h = let t = take_at vs more n.variables (sym h.0) in rw t
@@ -38,11 +38,11 @@ whole-from-body (Err f) vs more os es l h = refl
 pub returns : goal.returns
 unfolding whole_of
 returns c =
-    let z = sub-zero c.in-ok-count.field-0 in
+    let z = sub-zero c.in_ok-count.field-0 in
     let b = c.body.ensures.reads in
-    let more = post_of 0 (c.in-ok-count.field-0 - 0) c.variable-list.new.records in
+    let more = post_of 0 (c.in_ok-count.field-0 - 0) c.variable_list.new.records in
     let w = whole-from-body c.body.result c.body.new.variables more c.body.new.operators c.body.new.entries c.body.new.cursor c.body.ensures.room in
     record {
-      reads = rw (c.in-ok-heading.ensures, c.in-ok-count.ensures.reads, c.in-ok-variable-list.ensures.reads) (rw z at b ∙ w);
+      reads = rw (c.in_ok-heading.ensures, c.in_ok-count.ensures.reads, c.in_ok-variable_list.ensures.reads) (rw z at b ∙ w);
       room = IfOk-weaker c.body.result _ _ (λ n h. (simp length-append (omega (arith, h.0)), h.1, h.2)) c.body.ensures.room;
     }

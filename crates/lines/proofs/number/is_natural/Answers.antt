@@ -16,8 +16,8 @@ only-first : (b : Bool) → (b && (true && true)) ≡ b
 only-first true = search rules
 only-first false = search rules
 
-pub returns-then-is-empty : goal.returns-then-is-empty
-returns-then-is-empty c =
+pub returns-then-is_empty : goal.returns-then-is_empty
+returns-then-is_empty c =
     let z : eqb (length c.args.bytes.now) 0 ≡ true = grind (arith, nat_tests) in
     rw z (not-both (all_digits c.args.bytes.now) (not (needless_zero c.args.bytes.now)))
 
@@ -30,4 +30,4 @@ pub returns : goal.returns
 returns c =
     let z : eqb (length c.args.bytes.now) 0 ≡ false = grind (arith, nat_tests) in
     let y : needless_zero c.args.bytes.now ≡ false = grind (arith, nat_tests) in
-    rw (z, y) (only-first (all_digits c.args.bytes.now) ∙ c.is-digits.ensures)
+    rw (z, y) (only-first (all_digits c.args.bytes.now) ∙ c.is_digits.ensures)

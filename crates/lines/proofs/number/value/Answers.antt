@@ -5,23 +5,23 @@ use Rattle.std.proofs.lemmas.Bool.Decides.{nat_tests}
 use Rattle.lines.specs.Numbers.{all_digits, value_after}
 use Rattle.lines.proofs.number.value.Goals as goal
 
-pub overflow-mul-value : goal.overflow-mul-value
-overflow-mul-value c =
+pub overflow_mul-value : goal.overflow_mul-value
+overflow_mul-value c =
     let i = c.loop-b.b-index in
     let h : i ≤ 8 = omega arith in
     let k : 10 ^ i ≤ 10 ^ 8 = pow-le-pow_right (omega arith) h in
     omega (arith, c.loop-b.invariant.1)
 
-pub overflow-sub-b : goal.overflow-sub-b
-overflow-sub-b c =
+pub overflow_sub-b : goal.overflow_sub-b
+overflow_sub-b c =
     let s = c.args.digits.now in
     let i = c.loop-b.b-index in
     let e : all_digits (drop i s) ≡ ((leb 48 (get_or s i 0) && leb (get_or s i 0) 57) && all_digits (drop (i + 1) s)) = at_drop_more all_digits s i 0 (omega arith) in
     let d = c.loop-b.invariant.2 in
     grind (arith, nat_tests)
 
-pub overflow-add-value : goal.overflow-add-value
-overflow-add-value c =
+pub overflow_add-value : goal.overflow_add-value
+overflow_add-value c =
     let i = c.loop-b.b-index in
     let h : i ≤ 8 = omega arith in
     let k : 10 ^ i ≤ 10 ^ 8 = pow-le-pow_right (omega arith) h in

@@ -3,4 +3,4 @@ use Rattle.std.proofs.Common.{◌/◌, ◌%◌, refl, ap, mod-lt, arith}
 use Rattle.memory.proofs.index.hash_of.Goals as goal
 
 pub returns : goal.returns
-returns c = record { is = ap (λ h. (h / 4294967296) % c.args.slots) c.fingerprint-of-mixed.ensures; low = mod-lt _ c.requires }
+returns c = record { is = ap (λ h. (h / 4294967296) % c.args.slots) c.fingerprint_of-mixed.ensures; low = mod-lt _ c.requires }

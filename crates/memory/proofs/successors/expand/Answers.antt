@@ -27,7 +27,7 @@ generate-requires g c =
       inside = lx;
       row = v.3;
       variables = omega (arith, v.1.variables, c.requires.variables);
-      number = omega (arith, c.operator-count-count.ensures.1);
+      number = omega (arith, c.operator_count-count.ensures.1);
       fits = omega (arith, v.4 x (omega (arith, count_of m)), g-is m x lx, dearest-le (prices t) c.loop-operator.operator, dearest-low c.args.task.now, mul-le-mul_right (dearest (prices t)) top);
     }
 
@@ -43,7 +43,7 @@ returns-then-not-generate g c =
       consistent = c.generate.ensures.consistent;
       untouched = untouched-both c.args.memory.now m n v.1 c.generate.ensures.untouched;
       generates = generates-to est t c.args.memory.now.capacity c.args.node c.loop-operator.operator _ (nodes_of c.args.memory.now) c.args.estimator.now m n c.loop-operator.estimator c.generate.new.estimator refl f.1 f.2 v.5;
-      ends = omega (arith, c.operator-count-count.ensures.0);
+      ends = omega (arith, c.operator_count-count.ensures.0);
       full = λ _. full-to t m.capacity c.args.memory.now.capacity c.args.node c.loop-operator.operator m n v.1.capacity f.1 f.0;
     }
 
@@ -69,11 +69,11 @@ returns g c =
     let v = c.loop-operator.invariant in
     let t = model c.args.task.now in
     let est = kind_of g.E.Estimator.unset g.E.Estimator.holds g.E.Estimator.sets g.E.Estimator.answers in
-    let e : c.loop-operator.operator ≡ c.operator-count-count.result = omega arith in
+    let e : c.loop-operator.operator ≡ c.operator_count-count.result = omega arith in
     record {
       consistent = v.0;
       untouched = v.1;
       generates = generates-to est t c.args.memory.now.capacity c.args.node c.loop-operator.operator _ (nodes_of c.args.memory.now) c.args.estimator.now c.loop-operator.memory c.loop-operator.memory c.loop-operator.estimator c.loop-operator.estimator e refl refl v.5;
-      ends = omega (arith, c.operator-count-count.ensures.0);
-      full = λ l. absurd (omega (arith, c.operator-count-count.ensures.0));
+      ends = omega (arith, c.operator_count-count.ensures.0);
+      full = λ l. absurd (omega (arith, c.operator_count-count.ensures.0));
     }

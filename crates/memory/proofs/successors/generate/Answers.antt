@@ -9,14 +9,14 @@ use Rattle.memory.proofs.Changes.{untouched-same, untouched-both}
 use Rattle.memory.proofs.Tried.{skip-generate, keep-generate, better-generate, add-generate, full-generate, add-settle, add-idle}
 use Rattle.memory.proofs.successors.generate.Goals as goal
 
-pub returns-then-not-apply-to-row : goal.returns-then-not-apply-to-row
-returns-then-not-apply-to-row g c =
+pub returns-then-not-apply_to_row : goal.returns-then-not-apply_to_row
+returns-then-not-apply_to_row g c =
     let m = c.args.memory.now in
     let t = model c.args.task.now in
     let est = kind_of g.E.Estimator.unset g.E.Estimator.holds g.E.Estimator.sets g.E.Estimator.answers in
     let x = c.args.node in
     let i = c.args.operator in
-    let n = c.if-not-apply-to-row.ensures in
+    let n = c.if-not-apply_to_row.ensures in
     let wide = ap length c.requires.row ∙ state-long m c.requires.consistent x c.requires.inside ∙ c.requires.variables ∙ sym (length-map c.args.task.now.variables.now (λ v. v.domain)) in
     record {
       consistent = c.requires.consistent;
@@ -25,8 +25,8 @@ returns-then-not-apply-to-row g c =
       tried = skip-generate est t m.capacity m x i c.requires.inside c.args.row.now c.requires.row c.args.estimator.now (λ a. n.0 (wide, a));
     }
 
-pub offset-bounds-memory-successor : goal.offset-bounds-memory-successor
-offset-bounds-memory-successor g c = omega (arith, c.in-Held.ensures.0, count_of c.args.memory.now, c.requires.consistent.within, c.requires.consistent.lent.small)
+pub offset_bounds-memory-successor : goal.offset_bounds-memory-successor
+offset_bounds-memory-successor g c = omega (arith, c.in-Held.ensures.0, count_of c.args.memory.now, c.requires.consistent.within, c.requires.consistent.lent.small)
 
 pub bounds-memory-successor : goal.bounds-memory-successor
 bounds-memory-successor g c = omega (arith, c.in-Held.ensures.0, count_of c.args.memory.now, c.requires.consistent.within, c.requires.consistent.lent.nodes)
@@ -38,9 +38,9 @@ returns-then-memory-successor g c =
     let est = kind_of g.E.Estimator.unset g.E.Estimator.holds g.E.Estimator.sets g.E.Estimator.answers in
     let x = c.args.node in
     let i = c.args.operator in
-    let s = c.apply-to-row.new.row in
+    let s = c.apply_to_row.new.row in
     let cost = (record_at m x).g + c.price.result in
-    let went = c.if-not-apply-to-row.ensures in
+    let went = c.if-not-apply_to_row.ensures in
     let sum : cost ≡ (record_at m x).g + get_or (prices t) i 0 = ap (λ p. (record_at m x).g + p) c.price.ensures.is in
     record {
       consistent = c.requires.consistent;
@@ -59,9 +59,9 @@ returns-in-Held g c =
     let est = kind_of g.E.Estimator.unset g.E.Estimator.holds g.E.Estimator.sets g.E.Estimator.answers in
     let x = c.args.node in
     let i = c.args.operator in
-    let s = c.apply-to-row.new.row in
+    let s = c.apply_to_row.new.row in
     let cost = (record_at m x).g + c.price.result in
-    let went = c.if-not-apply-to-row.ensures in
+    let went = c.if-not-apply_to_row.ensures in
     let sum : cost ≡ (record_at m x).g + get_or (prices t) i 0 = ap (λ p. (record_at m x).g + p) c.price.ensures.is in
     let o = c.improve.ensures in
     record {
@@ -79,9 +79,9 @@ returns-then-memory g c =
     let est = kind_of g.E.Estimator.unset g.E.Estimator.holds g.E.Estimator.sets g.E.Estimator.answers in
     let x = c.args.node in
     let i = c.args.operator in
-    let s = c.apply-to-row.new.row in
+    let s = c.apply_to_row.new.row in
     let cost = (record_at m x).g + c.price.result in
-    let went = c.if-not-apply-to-row.ensures in
+    let went = c.if-not-apply_to_row.ensures in
     let sum : cost ≡ (record_at m x).g + get_or (prices t) i 0 = ap (λ p. (record_at m x).g + p) c.price.ensures.is in
     record {
       consistent = c.requires.consistent;
@@ -90,8 +90,8 @@ returns-then-memory g c =
       tried = (full-generate est t m.capacity m x i c.requires.inside c.args.row.now c.requires.row s went.1 went.2 cost sum c.in-Free.ensures.0 (omega arith), refl, refl);
     }
 
-pub queue-new-requires : goal.queue-new-requires
-queue-new-requires g c =
+pub queue_new-requires : goal.queue_new-requires
+queue_new-requires g c =
     let m = c.args.memory.now in
     record {
       consistent = c.add.ensures.consistent;
@@ -106,18 +106,18 @@ returns-in-Free g c =
     let est = kind_of g.E.Estimator.unset g.E.Estimator.holds g.E.Estimator.sets g.E.Estimator.answers in
     let x = c.args.node in
     let i = c.args.operator in
-    let s = c.apply-to-row.new.row in
+    let s = c.apply_to_row.new.row in
     let cost = (record_at m x).g + c.price.result in
-    let went = c.if-not-apply-to-row.ensures in
+    let went = c.if-not-apply_to_row.ensures in
     let sum : cost ≡ (record_at m x).g + get_or (prices t) i 0 = ap (λ p. (record_at m x).g + p) c.price.ensures.is in
     let w = c.estimate-answer-in-Free.result in
     record {
-      consistent = c.queue-new.ensures.consistent;
-      untouched = untouched-both m c.add.new.self c.queue-new.new.self c.add.ensures.untouched c.queue-new.ensures.untouched;
+      consistent = c.queue_new.ensures.consistent;
+      untouched = untouched-both m c.add.new.self c.queue_new.new.self c.add.ensures.untouched c.queue_new.ensures.untouched;
       row = λ _. c.load-in-Free.ensures;
       tried = add-generate est t m.capacity m x i c.requires.inside c.args.row.now c.requires.row s went.1 went.2 cost sum c.args.estimator.now c.estimate-answer-in-Free.new.self
-          (nodes_of c.queue-new.new.self) w c.in-Free.ensures.0 (omega (arith, c.if-memory.false, c.requires.consistent.within)) c.estimate-answer-in-Free.ensures
-          (add-settle (nodes_of m) (nodes_of c.add.new.self) (nodes_of c.queue-new.new.self) m.held s cost x i w (sym (count_of m)) c.add.ensures.nodes c.queue-new.ensures.nodes);
+          (nodes_of c.queue_new.new.self) w c.in-Free.ensures.0 (omega (arith, c.if-memory.false, c.requires.consistent.within)) c.estimate-answer-in-Free.ensures
+          (add-settle (nodes_of m) (nodes_of c.add.new.self) (nodes_of c.queue_new.new.self) m.held s cost x i w (sym (count_of m)) c.add.ensures.nodes c.queue_new.ensures.nodes);
     }
 
 pub returns-in-Crowded : goal.returns-in-Crowded
@@ -127,9 +127,9 @@ returns-in-Crowded g c =
     let est = kind_of g.E.Estimator.unset g.E.Estimator.holds g.E.Estimator.sets g.E.Estimator.answers in
     let x = c.args.node in
     let i = c.args.operator in
-    let s = c.apply-to-row.new.row in
+    let s = c.apply_to_row.new.row in
     let cost = (record_at m x).g + c.price.result in
-    let went = c.if-not-apply-to-row.ensures in
+    let went = c.if-not-apply_to_row.ensures in
     let sum : cost ≡ (record_at m x).g + get_or (prices t) i 0 = ap (λ p. (record_at m x).g + p) c.price.ensures.is in
     record {
       consistent = c.requires.consistent;
@@ -156,4 +156,4 @@ add-requires g c =
 pub load-requires-in-Free : goal.load-requires-in-Free
 load-requires-in-Free g c =
     let w = ap length c.requires.row ∙ state-long c.args.memory.now c.requires.consistent c.args.node c.requires.inside in
-    record { consistent = c.queue-new.ensures.consistent; inside = omega (arith, c.requires.inside, c.add.ensures.held, c.queue-new.ensures.held); width = omega (arith, w, c.queue-new.ensures.untouched.variables, c.add.ensures.untouched.variables) }
+    record { consistent = c.queue_new.ensures.consistent; inside = omega (arith, c.requires.inside, c.add.ensures.held, c.queue_new.ensures.held); width = omega (arith, w, c.queue_new.ensures.untouched.variables, c.add.ensures.untouched.variables) }

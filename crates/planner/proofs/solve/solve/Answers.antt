@@ -25,6 +25,6 @@ returns-in-Ok g c = λ o.
     let v = start-reached est (model t₀) N₀ (plan_text t₀) c.args.row.now (plain_of s₀.core) p e₀ e (reports (start_outcome r) c.start.new.row (start_go_ahead r) p) o x.does (ap start_outcome c.in-Ok.is) in
     let run = v.0.0 in
     let h = subst (λ n. Reached est (model s.task) n (plan_text s.task) e₀ run p e) (sym x.untouched.capacity) (subst (λ z. Reached est (model z) N₀ (plan_text z) e₀ run p e) (sym x.same) v.0.1) in
-    let ends = c.run-to-end.ensures e₀ run h v.1 in
-    inl (subst (λ z. Ended (model z) N₀ (plan_text z) c.args.buffer.now c.run-to-end.result c.run-to-end.new.buffer) x.same
-    (subst (λ n. Ended (model s.task) n (plan_text s.task) c.args.buffer.now c.run-to-end.result c.run-to-end.new.buffer) x.untouched.capacity ends))
+    let ends = c.run_to_end.ensures e₀ run h v.1 in
+    inl (subst (λ z. Ended (model z) N₀ (plan_text z) c.args.buffer.now c.run_to_end.result c.run_to_end.new.buffer) x.same
+    (subst (λ n. Ended (model s.task) n (plan_text s.task) c.args.buffer.now c.run_to_end.result c.run_to_end.new.buffer) x.untouched.capacity ends))

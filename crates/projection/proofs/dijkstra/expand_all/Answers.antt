@@ -9,7 +9,7 @@ expand-requires c =
     let run = c.loop-entry.invariant in
     let e = c.in-Some.ensures.taken in
     record {
-      running = expand-start (abstract_of c.args.abstract-task.now) c.args.row.now c.in-Some.entry.rank c.loop-entry.table c.loop-entry.queue c.take.new.self run e.changed c.take.ensures.rows c.take.ensures.sound;
+      running = expand-start (abstract_of c.args.abstract_task.now) c.args.row.now c.in-Some.entry.rank c.loop-entry.table c.loop-entry.queue c.take.new.self run e.changed c.take.ensures.rows c.take.ensures.sound;
       stands = c.requires.stands;
       row = c.requires.row;
       rank = run.«open».inside c.in-Some.entry.rank c.in-Some.entry e.first.here;
@@ -20,4 +20,4 @@ returns c =
     let run = c.loop-entry.invariant in
     let long = run.long in
     let few = c.requires.stands.few in
-    run-settles (abstract_of c.args.abstract-task.now) c.args.row.now c.loop-entry.table c.loop-entry.queue (omega arith) c.in-default.ensures.taken.empty run
+    run-settles (abstract_of c.args.abstract_task.now) c.args.row.now c.loop-entry.table c.loop-entry.queue (omega arith) c.in_default.ensures.taken.empty run

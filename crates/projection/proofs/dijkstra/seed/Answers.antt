@@ -4,7 +4,7 @@ use lib.ListN.{get_or-replicate}
 use Rattle.abstraction.specs.AbstractTasks.{abstract_of}
 use Rattle.projection.proofs.Running.{Seeded, seeded-lower, seeded-skip, seeded-runs, closed, digits-state}
 use Rattle.projection.proofs.dijkstra.seed.Goals as goal
-use Rattle.projection.proofs.dijkstra.seed.Goals.{then-is-goal, else-is-goal}
+use Rattle.projection.proofs.dijkstra.seed.Goals.{then-is_goal, else-is_goal}
 
 pub loop-rank-init : goal.loop-rank-init
 loop-rank-init c =
@@ -25,19 +25,19 @@ lower-requires c = let l = c.loop-rank.auto.table in let m = c.fill.ensures.len 
 
 pub loop-rank-preserved : goal.loop-rank-preserved
 loop-rank-preserved c =
-    let A = c.args.abstract-task.now in
+    let A = c.args.abstract_task.now in
     let P = abstract_of A in
     let r = c.loop-rank.rank in
-    let w = digits-state P r (length A.pattern.now) c.state-of-digits.result c.state-of-digits.ensures in
-    elim c.if-is-goal.branch [
-      | then-is-goal x ↦ subst (λ z. Seeded P (r + 1) z c.if-is-goal.queue) (sym x.table-is) (subst (Seeded P (r + 1) x.lower.new.table) (sym x.queue-is)
-          (seeded-lower P r _ c.loop-rank.table x.lower.new.table c.loop-rank.queue x.lower.new.queue w x.if-is-goal.ensures c.loop-rank.invariant x.lower.ensures.«open» x.lower.ensures.relaxed x.lower.ensures.lowered))
-      | else-is-goal x ↦ subst (λ z. Seeded P (r + 1) z c.if-is-goal.queue) (sym x.table-is) (subst (Seeded P (r + 1) c.loop-rank.table) (sym x.queue-is)
-          (seeded-skip P r _ c.loop-rank.table c.loop-rank.queue w x.if-is-goal.ensures c.loop-rank.invariant))
+    let w = digits-state P r (length A.pattern.now) c.state_of-digits.result c.state_of-digits.ensures in
+    elim c.if-is_goal.branch [
+      | then-is_goal x ↦ subst (λ z. Seeded P (r + 1) z c.if-is_goal.queue) (sym x.table-is) (subst (Seeded P (r + 1) x.lower.new.table) (sym x.queue-is)
+          (seeded-lower P r _ c.loop-rank.table x.lower.new.table c.loop-rank.queue x.lower.new.queue w x.if-is_goal.ensures c.loop-rank.invariant x.lower.ensures.«open» x.lower.ensures.relaxed x.lower.ensures.lowered))
+      | else-is_goal x ↦ subst (λ z. Seeded P (r + 1) z c.if-is_goal.queue) (sym x.table-is) (subst (Seeded P (r + 1) c.loop-rank.table) (sym x.queue-is)
+          (seeded-skip P r _ c.loop-rank.table c.loop-rank.queue w x.if-is_goal.ensures c.loop-rank.invariant))
     ]
 
 pub returns : goal.returns
 returns c =
     let l = c.loop-rank.auto.table in
     let m = c.fill.ensures.len in
-    seeded-runs (abstract_of c.args.abstract-task.now) c.loop-rank.rank c.loop-rank.table c.loop-rank.queue (closed c.args.abstract-task.now c.requires.stands) (omega arith) c.loop-rank.invariant
+    seeded-runs (abstract_of c.args.abstract_task.now) c.loop-rank.rank c.loop-rank.table c.loop-rank.queue (closed c.args.abstract_task.now c.requires.stands) (omega arith) c.loop-rank.invariant

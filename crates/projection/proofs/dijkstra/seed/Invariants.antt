@@ -3,4 +3,4 @@ use Rattle.projection.proofs.Running.{Seeded}
 use Rattle.projection.proofs.dijkstra.seed.Given as goal
 
 abbrev pub invariant-loop-rank : goal.invariant-loop-rank
-invariant-loop-rank l = Seeded (abstract_of l.abstract-task) l.rank l.table l.queue
+invariant-loop-rank l = Seeded (abstract_of l.abstract_task) l.rank l.table l.queue

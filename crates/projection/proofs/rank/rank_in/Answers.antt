@@ -11,13 +11,13 @@ term a b h l =
     let q = mul-le-mul_right 4294967295 y in
     omega arith
 
-pub overflow-mul-rank : goal.overflow-mul-rank
-overflow-mul-rank c = let s = c.type-inv.state (get_or c.args.pattern.now c.loop-place.place 0) in let w = c.type-inv.weights c.loop-place.place in let m = term _ _ s w in omega arith
+pub overflow_mul-rank : goal.overflow_mul-rank
+overflow_mul-rank c = let s = c.type_inv.state (get_or c.args.pattern.now c.loop-place.place 0) in let w = c.type_inv.weights c.loop-place.place in let m = term _ _ s w in omega arith
 
-pub overflow-add-rank : goal.overflow-add-rank
-overflow-add-rank c =
-    let s = c.type-inv.state (get_or c.args.pattern.now c.loop-place.place 0) in
-    let w = c.type-inv.weights c.loop-place.place in
+pub overflow_add-rank : goal.overflow_add-rank
+overflow_add-rank c =
+    let s = c.type_inv.state (get_or c.args.pattern.now c.loop-place.place 0) in
+    let w = c.type_inv.weights c.loop-place.place in
     let m = term _ _ s w in
     let r = c.loop-place.invariant.1 in
     omega arith
@@ -29,8 +29,8 @@ pub loop-place-preserved : goal.loop-place-preserved
 loop-place-preserved c =
     let i = c.loop-place.place in
     let P = c.args.pattern.now in
-    let s = c.type-inv.state (get_or P i 0) in
-    let w = c.type-inv.weights i in
+    let s = c.type_inv.state (get_or P i 0) in
+    let w = c.type_inv.weights i in
     let m = term _ _ s w in
     let r = c.loop-place.invariant.1 in
     let sum : weighed P c.args.weights.now c.args.state.now (i + 1) ≡ weighed P c.args.weights.now c.args.state.now i + get_or c.args.state.now (get_or P i 0) 0 * get_or c.args.weights.now i 0 =

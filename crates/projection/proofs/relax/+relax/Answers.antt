@@ -15,20 +15,20 @@ use Rattle.projection.proofs.relax.+relax.Goals as goal
 
 pub lower-requires : goal.lower-requires
 lower-requires t c =
-    let n = places c.args.abstract-task.now in
-    let e = product-end (abstract_of c.args.abstract-task.now).domains c.args.place (let l = c.if-place-abstract-task.true in omega arith) in
+    let n = places c.args.abstract_task.now in
+    let e = product-end (abstract_of c.args.abstract_task.now).domains c.args.place (let l = c.if-place-abstract_task.true in omega arith) in
     let r = c.requires.room in
     (c.requires.«open», omega arith)
 
-pub returns-then-place-abstract-task : goal.returns-then-place-abstract-task
-returns-then-place-abstract-task t c =
-    let A = c.args.abstract-task.now in
+pub returns-then-place-abstract_task : goal.returns-then-place-abstract_task
+returns-then-place-abstract_task t c =
+    let A = c.args.abstract_task.now in
     let o = c.args.operator in
     let b = c.args.state.now in
     let i = c.args.place in
     let f = c.args.from in
     let n = places A in
-    let last = c.if-place-abstract-task.true in
+    let last = c.if-place-abstract_task.true in
     let long = c.requires.state.long in
     record {
       «open» = c.lower.ensures.«open»;
@@ -38,38 +38,38 @@ returns-then-place-abstract-task t c =
       done = λ k l. subst (λ z. get_or c.lower.new.table z 0 ≤ c.args.distance) (sym (preceding-only A o b i f k (omega arith) l)) c.lower.ensures.lowered;
     }
 
-pub overflow-mul-part : goal.overflow-mul-part
-overflow-mul-part t c = let n = number-low c.args.abstract-task.now c.args.operator c.requires.number in omega arith
+pub overflow_mul-part : goal.overflow_mul-part
+overflow_mul-part t c = let n = number-low c.args.abstract_task.now c.args.operator c.requires.number in omega arith
 
-pub overflow-add-part : goal.overflow-add-part
-overflow-add-part t c = let n = number-low c.args.abstract-task.now c.args.operator c.requires.number in let f = c.requires.stands.pattern.few in let p = c.requires.place in omega arith
+pub overflow_add-part : goal.overflow_add-part
+overflow_add-part t c = let n = number-low c.args.abstract_task.now c.args.operator c.requires.number in let f = c.requires.stands.pattern.few in let p = c.requires.place in omega arith
 
-pub offset-bounds-abstract-task-operator : goal.offset-bounds-abstract-task-operator
-offset-bounds-abstract-task-operator t c = let n = number-low c.args.abstract-task.now c.args.operator c.requires.number in let f = c.requires.stands.pattern.few in let p = c.requires.place in omega arith
+pub offset_bounds-abstract_task-operator : goal.offset_bounds-abstract_task-operator
+offset_bounds-abstract_task-operator t c = let n = number-low c.args.abstract_task.now c.args.operator c.requires.number in let f = c.requires.stands.pattern.few in let p = c.requires.place in omega arith
 
-pub bounds-abstract-task-operator : goal.bounds-abstract-task-operator
-bounds-abstract-task-operator t c =
-    let n = number-low c.args.abstract-task.now c.args.operator c.requires.number in
+pub bounds-abstract_task-operator : goal.bounds-abstract_task-operator
+bounds-abstract_task-operator t c =
+    let n = number-low c.args.abstract_task.now c.args.operator c.requires.number in
     let f = c.requires.stands.pattern.few in
     let p = c.requires.place in
-    let l = c.if-place-abstract-task.false in
+    let l = c.if-place-abstract_task.false in
     omega arith
 
 pub bounds-state-place : goal.bounds-state-place
 bounds-state-place t c =
-    let n = places c.args.abstract-task.now in
+    let n = places c.args.abstract_task.now in
     let l = c.requires.state.long in
     let p = c.requires.place in
-    let q = c.if-place-abstract-task.false in
+    let q = c.if-place-abstract_task.false in
     omega arith
 
-pub values-before-low-requires : goal.values-before-low-requires
-values-before-low-requires t c =
-    let A = c.args.abstract-task.now in
+pub values_before-low-requires : goal.values_before-low-requires
+values_before-low-requires t c =
+    let A = c.args.abstract_task.now in
     let i = c.args.place in
     let n = places A in
     let p = c.requires.place in
-    let q = c.if-place-abstract-task.false in
+    let q = c.if-place-abstract_task.false in
     let l = c.requires.state.long in
     let d = c.requires.stands.domains i (omega arith) in
     let w = c.requires.state.within i (omega arith) in
@@ -97,32 +97,32 @@ tried A o b i f x n st h r v =
     let s = scaled x (get_or ds i 0) w low in
     record { weight = e; step = record { within = low; admits = v.1; leads = v.2 }; room = omega arith }
 
-pub overflow-mul-value : goal.overflow-mul-value
-overflow-mul-value t c =
+pub overflow_mul-value : goal.overflow_mul-value
+overflow_mul-value t c =
     let p = c.requires.place in
-    let q = c.if-place-abstract-task.false in
+    let q = c.if-place-abstract_task.false in
     let k = c.loop-value.auto.value in
-    let w = (tried c.args.abstract-task.now c.args.operator c.args.state.now c.args.place c.args.from c.loop-value.value (length c.args.table.now) c.requires.stands (omega arith) c.requires.room (c.values-before-low.ensures.each c.loop-value.value (omega arith) c.loop-value-test.true)).room in
+    let w = (tried c.args.abstract_task.now c.args.operator c.args.state.now c.args.place c.args.from c.loop-value.value (length c.args.table.now) c.requires.stands (omega arith) c.requires.room (c.values_before-low.ensures.each c.loop-value.value (omega arith) c.loop-value-test.true)).room in
     let f = c.requires.few in
     omega arith
 
-pub overflow-add-from : goal.overflow-add-from
-overflow-add-from t c =
+pub overflow_add-from : goal.overflow_add-from
+overflow_add-from t c =
     let p = c.requires.place in
-    let q = c.if-place-abstract-task.false in
+    let q = c.if-place-abstract_task.false in
     let k = c.loop-value.auto.value in
-    let w = (tried c.args.abstract-task.now c.args.operator c.args.state.now c.args.place c.args.from c.loop-value.value (length c.args.table.now) c.requires.stands (omega arith) c.requires.room (c.values-before-low.ensures.each c.loop-value.value (omega arith) c.loop-value-test.true)).room in
+    let w = (tried c.args.abstract_task.now c.args.operator c.args.state.now c.args.place c.args.from c.loop-value.value (length c.args.table.now) c.requires.stands (omega arith) c.requires.room (c.values_before-low.ensures.each c.loop-value.value (omega arith) c.loop-value-test.true)).room in
     let f = c.requires.few in
     omega arith
 
 pub relax-requires : goal.relax-requires
 relax-requires t c =
-    let A = c.args.abstract-task.now in
+    let A = c.args.abstract_task.now in
     let i = c.args.place in
     let p = c.requires.place in
-    let q = c.if-place-abstract-task.false in
+    let q = c.if-place-abstract_task.false in
     let k = c.loop-value.auto.value in
-    let w = tried A c.args.operator c.args.state.now i c.args.from c.loop-value.value (length c.args.table.now) c.requires.stands (omega arith) c.requires.room (c.values-before-low.ensures.each c.loop-value.value (omega arith) c.loop-value-test.true) in
+    let w = tried A c.args.operator c.args.state.now i c.args.from c.loop-value.value (length c.args.table.now) c.requires.stands (omega arith) c.requires.room (c.values_before-low.ensures.each c.loop-value.value (omega arith) c.loop-value-test.true) in
     let m = c.decreases in
     let long = c.loop-value.invariant.1.long in
     let f = c.requires.few in
@@ -132,7 +132,7 @@ relax-requires t c =
 
 pub loop-value-preserved : goal.loop-value-preserved
 loop-value-preserved t c =
-    let A = c.args.abstract-task.now in
+    let A = c.args.abstract_task.now in
     let o = c.args.operator in
     let b = c.args.state.now in
     let i = c.args.place in
@@ -140,11 +140,11 @@ loop-value-preserved t c =
     let x = c.loop-value.value in
     let wt = get_or A.weights i 0 in
     let p = c.requires.place in
-    let q = c.if-place-abstract-task.false in
+    let q = c.if-place-abstract_task.false in
     let kv = c.loop-value.auto.value in
     let n = places A in
     let l = c.requires.state.long in
-    let w = tried A o b i f x (length c.args.table.now) c.requires.stands (omega arith) c.requires.room (c.values-before-low.ensures.each x (omega arith) c.loop-value-test.true) in (
+    let w = tried A o b i f x (length c.args.table.now) c.requires.stands (omega arith) c.requires.room (c.values_before-low.ensures.each x (omega arith) c.loop-value-test.true) in (
       c.relax.ensures.«open»,
       relaxed-then (Preceding A o b i f) c.args.distance _ _ _ _ _ _ c.loop-value.invariant.1
           (relaxed-wider (Preceding A o b (i + 1) (f + x * wt)) (Preceding A o b i f) c.args.distance _ _ _ _
@@ -158,13 +158,13 @@ loop-value-preserved t c =
 
 pub returns : goal.returns
 returns t c =
-    let A = c.args.abstract-task.now in
+    let A = c.args.abstract_task.now in
     let o = c.args.operator in
     let b = c.args.state.now in
     let i = c.args.place in
     let f = c.args.from in
     let p = c.requires.place in
-    let q = c.if-place-abstract-task.false in
+    let q = c.if-place-abstract_task.false in
     let n = places A in
     let l = c.requires.state.long in
     let st = c.requires.stands in
@@ -174,6 +174,6 @@ returns t c =
       done = λ k y.
           let w = preceding-first A o b i f k (get_or A.weights i 0) (omega arith) (omega arith) (st.weights i (omega arith)) y in
           let s = w.1 in
-          let r = c.values-before-low.ensures.all w.0 (subst (λ z. w.0 < z) (sym (st.domains i (omega arith))) s.within, s.admits, s.leads) in
+          let r = c.values_before-low.ensures.all w.0 (subst (λ z. w.0 < z) (sym (st.domains i (omega arith))) s.within, s.admits, s.leads) in
           c.loop-value.invariant.2 w.0 k r.0 (let z = r.1 in let u = c.loop-value-test.false in omega arith) w.2;
     }

@@ -5,5 +5,5 @@ use Rattle.projection.proofs.saturate.raise.Given as goal
 
 abbrev pub invariant-loop-operator : goal.invariant-loop-operator
 invariant-loop-operator l =
-    ((o : ℕ) → o < l.operator → HeldBelow (abstract_of l.abstract-task) l.table o (l.rank + 1) (get_or l.held o 0))
-    × ((o : ℕ) → l.operator ≤ o → o < length (abstract_of l.abstract-task).operators → HeldBelow (abstract_of l.abstract-task) l.table o l.rank (get_or l.held o 0))
+    ((o : ℕ) → o < l.operator → HeldBelow (abstract_of l.abstract_task) l.table o (l.rank + 1) (get_or l.held o 0))
+    × ((o : ℕ) → l.operator ≤ o → o < length (abstract_of l.abstract_task).operators → HeldBelow (abstract_of l.abstract_task) l.table o l.rank (get_or l.held o 0))

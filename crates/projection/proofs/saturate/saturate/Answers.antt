@@ -7,24 +7,24 @@ use Rattle.projection.specs.Distances.{IsHeld}
 use Rattle.projection.proofs.Saturation.{held_low}
 use Rattle.projection.proofs.saturate.saturate.Goals as goal
 
-pub fill-held-requires : goal.fill-held-requires
-fill-held-requires c = record { stands = c.requires.stands; held = operators-low c.args.abstract-task.now; long = c.requires.settled.long }
+pub fill_held-requires : goal.fill_held-requires
+fill_held-requires c = record { stands = c.requires.stands; held = operators-low c.args.abstract_task.now; long = c.requires.settled.long }
 
 pub bounds-held-operator : goal.bounds-held-operator
-bounds-held-operator c = let l = operators-low c.args.abstract-task.now in let r = c.requires.row in let t = c.loop-operator-test.true in omega arith
+bounds-held-operator c = let l = operators-low c.args.abstract_task.now in let r = c.requires.row in let t = c.loop-operator-test.true in omega arith
 
-pub overflow-sub-row : goal.overflow-sub-row
-overflow-sub-row c =
+pub overflow_sub-row : goal.overflow_sub-row
+overflow_sub-row c =
     let r = c.requires.row in
     let t = c.loop-operator-test.true in
     let o = c.loop-operator.operator in
-    let h = held_low (abstract_of c.args.abstract-task.now) c.args.row.now c.args.table.now o _ c.requires.settled (c.fill-held.ensures o (omega arith)) in
+    let h = held_low (abstract_of c.args.abstract_task.now) c.args.row.now c.args.table.now o _ c.requires.settled (c.fill_held.ensures o (omega arith)) in
     let s = c.loop-operator.invariant.0 o (omega arith) in
     omega arith
 
 pub loop-operator-preserved : goal.loop-operator-preserved
 loop-operator-preserved c =
-    let P = abstract_of c.args.abstract-task.now in
+    let P = abstract_of c.args.abstract_task.now in
     let t = c.args.table.now in
     let o = c.loop-operator.operator in
     let row = c.loop-operator.row in
@@ -32,8 +32,8 @@ loop-operator-preserved c =
     let r = c.requires.row in
     let k = c.loop-operator.auto.row in
     let test = c.loop-operator-test.true in
-    let held = get_or c.fill-held.new.held o 0 in
-    let is : IsHeld P t o held = c.fill-held.ensures o (omega arith) in
+    let held = get_or c.fill_held.new.held o 0 in
+    let is : IsHeld P t o held = c.fill_held.ensures o (omega arith) in
     let h = held_low P first t o held c.requires.settled is in
     let s = c.loop-operator.invariant.0 o (omega arith) in
     let lt : o < length row = omega arith in

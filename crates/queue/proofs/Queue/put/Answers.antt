@@ -40,18 +40,18 @@ returns-in-Some g c =
       };
     }
 
-pub sift-up-requires : goal.sift-up-requires
-sift-up-requires g c =
+pub sift_up-requires : goal.sift_up-requires
+sift_up-requires g c =
     let item_of = g.T.QueueEntry.item_of in
     let q = c.args.self.now in
     let e = c.args.entry in
     let fresh : Missing item_of q.entries.now q.len (item_of e) =
-    subst (Missing item_of q.entries.now q.len) c.item-item.ensures c.in-default.ensures in
+    subst (Missing item_of q.entries.now q.len) c.item-item.ensures c.in_default.ensures in
     let room : Room q.entries.now q.places.now (item_of e) = record {
       in_entries = omega (arith, c.if-k-self.false, c.item-item.ensures);
       in_places = omega (arith, c.if-k-self-2.false, c.item-item.ensures);
     } in
-    let number : item_of e < 2 ^ 32 = omega (arith, c.item-item.type-inv, c.item-item.ensures) in
+    let number : item_of e < 2 ^ 32 = omega (arith, c.item-item.type_inv, c.item-item.ensures) in
     record {
       hole = record {
         within = omega arith;
@@ -66,18 +66,18 @@ returns g c =
     let q = c.args.self.now in
     let e = c.args.entry in
     let fresh : Missing item_of q.entries.now q.len (item_of e) =
-    subst (Missing item_of q.entries.now q.len) c.item-item.ensures c.in-default.ensures in
+    subst (Missing item_of q.entries.now q.len) c.item-item.ensures c.in_default.ensures in
     let room : Room q.entries.now q.places.now (item_of e) = record {
       in_entries = omega (arith, c.if-k-self.false, c.item-item.ensures);
       in_places = omega (arith, c.if-k-self-2.false, c.item-item.ensures);
     } in
-    let number : item_of e < 2 ^ 32 = omega (arith, c.item-item.type-inv, c.item-item.ensures) in
+    let number : item_of e < 2 ^ 32 = omega (arith, c.item-item.type_inv, c.item-item.ensures) in
     record {
-      sound = c.sift-up.ensures.sound;
-      rows = record { entries = c.sift-up.ensures.rows.entries; places = c.sift-up.ensures.rows.places };
+      sound = c.sift_up.ensures.sound;
+      rows = record { entries = c.sift_up.ensures.rows.entries; places = c.sift_up.ensures.rows.places };
       put = record {
         takes = room;
-        changed = λ k. c.sift-up.ensures.holds k ∙ held-end item_of q.entries.now q.places.now q.len e c.requires.indexed room number fresh k;
-        resized = ap (λ z. c.sift-up.new.self.len + counted z) (held_none c.requires.indexed (item_of e) fresh) ∙ omega (arith, c.sift-up.ensures.len);
+        changed = λ k. c.sift_up.ensures.holds k ∙ held-end item_of q.entries.now q.places.now q.len e c.requires.indexed room number fresh k;
+        resized = ap (λ z. c.sift_up.new.self.len + counted z) (held_none c.requires.indexed (item_of e) fresh) ∙ omega (arith, c.sift_up.ensures.len);
       };
     }

@@ -9,8 +9,8 @@ use Rattle.queue.proofs.Queue.refill.Goals as goal
 order : (g : given.Over) → TotalOrder g.T.QueueEntry.no_later
 order g = record { total = g.met.T.QueueEntry.total; transitive = g.met.T.QueueEntry.transitive }
 
-pub sift-up-requires : goal.sift-up-requires
-sift-up-requires g c =
+pub sift_up-requires : goal.sift_up-requires
+sift_up-requires g c =
     let no_later = g.T.QueueEntry.no_later in
     let xs = c.args.self.now.entries.now in
     let i = c.args.place in
@@ -19,11 +19,11 @@ sift-up-requires g c =
     record {
       hole = c.requires.hole;
       ordered = up_at no_later (order g) xs c.args.self.now.len i e c.requires.ordered c.requires.hole.within l
-          (λ d. compared no_later _ _ _ _ refl (get_or_default xs i d c.index-self-place.result l) (sym c.if-no-later-than.ensures));
+          (λ d. compared no_later _ _ _ _ refl (get_or_default xs i d c.index-self-place.result l) (sym c.if-no_later_than.ensures));
     }
 
-pub sift-down-requires : goal.sift-down-requires
-sift-down-requires g c =
+pub sift_down-requires : goal.sift_down-requires
+sift_down-requires g c =
     let no_later = g.T.QueueEntry.no_later in
     let xs = c.args.self.now.entries.now in
     let i = c.args.place in
@@ -32,5 +32,5 @@ sift-down-requires g c =
     record {
       hole = c.requires.hole;
       ordered = down-at no_later (order g) xs c.args.self.now.len i e c.requires.ordered c.requires.hole.within l
-          (λ d. compared no_later _ _ _ _ refl (get_or_default xs i d c.index-self-place.result l) (sym c.if-no-later-than.ensures));
+          (λ d. compared no_later _ _ _ _ refl (get_or_default xs i d c.index-self-place.result l) (sym c.if-no_later_than.ensures));
     }

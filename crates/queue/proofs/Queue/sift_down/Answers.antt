@@ -6,7 +6,7 @@ use Rattle.queue.proofs.Order.{TotalOrder, down_step, down-leaf, down-end, compa
 use Rattle.queue.proofs.Carrying.{hole-in, item_in, moved_in, exchanged, carrying-more}
 use Rattle.queue.proofs.Queue.sift_down.Given as given
 use Rattle.queue.proofs.Queue.sift_down.Goals as goal
-use Rattle.queue.proofs.Queue.sift_down.Goals.{else-loop-hole-test, then-loop-hole-test+then-no-later-than}
+use Rattle.queue.proofs.Queue.sift_down.Goals.{else-loop-hole-test, then-loop-hole-test+then-no_later_than}
 
 order : (g : given.Over) → TotalOrder g.T.QueueEntry.no_later
 order g = record { total = g.met.T.QueueEntry.total; transitive = g.met.T.QueueEntry.transitive }
@@ -15,9 +15,9 @@ pub bounds-self-moved : goal.bounds-self-moved
 bounds-self-moved g c =
     let xs = c.loop-hole.self.entries.now in
     let i = c.loop-hole.hole in
-    let k = c.least-child-child.result in
+    let k = c.least_child-child.result in
     let carried = c.loop-hole.invariant.0 in
-    let least = c.least-child-child.ensures in
+    let least = c.least_child-child.ensures in
     let lk : k < length xs = omega (arith, least.within, carried.indexed.fits, length-set xs i c.args.sifted) in
     let low = moved_in _ _ _ _ _ _ _ _ _ _ carried k _ least.within (λ z. omega (arith, least.child, least.below))
     (λ d. get_or_default xs k d c.index-self-child.result lk) in
@@ -32,16 +32,16 @@ loop-hole-preserved g c =
     let xs = c.loop-hole.self.entries.now in
     let n = c.loop-hole.self.len in
     let i = c.loop-hole.hole in
-    let k = c.least-child-child.result in
+    let k = c.least_child-child.result in
     let e = c.args.sifted in
     let carried = c.loop-hole.invariant.0 in
-    let least = c.least-child-child.ensures in
+    let least = c.least_child-child.ensures in
     let apart : k ≡ i → ⊥ = λ z. omega (arith, least.child, least.below) in
     let lk : k < length xs = omega (arith, least.within, carried.indexed.fits, length-set xs i e) in
     let is_f : (d : g.row.T.Denot) → get_or xs k d ≡ get_or xs k c.index-self-child.result = λ d. get_or_default xs k d c.index-self-child.result lk in
     let late : (d : g.row.T.Denot) → no_later (get_or (set xs i e) i d) (get_or (set xs i e) k d) ≡ false =
     λ d. compared no_later _ _ _ _ (get_or-set_same xs i e d (hole-in _ _ _ _ _ _ _ _ _ _ carried))
-    (get_or-set_other xs i k e d apart ∙ is_f d) (sym c.if-no-later-than.ensures) in
+    (get_or-set_other xs i k e d apart ∙ is_f d) (sym c.if-no_later_than.ensures) in
     let among : (j : ℕ) (d : g.row.T.Denot) → 0 < j → j < n → parent j ≡ i → no_later (get_or (set xs i e) k d) (get_or (set xs i e) j d) ≡ true =
     λ j d pos j-in p. compared no_later _ _ _ _ (get_or-set_other xs i k e d apart) (get_or-set_other xs i j e d (λ z. omega arith)) (least.least j d pos j-in p) in
     rw c.item-moved.ensures (
@@ -62,16 +62,16 @@ returns g c =
     let settled : HeapOrdered no_later (set xs i e) n =
     elim c.loop-hole-test.branch [
       | else-loop-hole-test w ↦ down-leaf no_later (order g) (set xs i e) (set xs i e) n i carried.within (omega (arith, w.loop-hole-test.false)) c.loop-hole.invariant.1
-      | then-loop-hole-test+then-no-later-than w ↦
-          let k = w.least-child-child.result in
-          let least = w.least-child-child.ensures in
+      | then-loop-hole-test+then-no_later_than w ↦
+          let k = w.least_child-child.result in
+          let least = w.least_child-child.ensures in
           let apart : k ≡ i → ⊥ = λ z. omega (arith, least.child, least.below) in
           let lk : k < length xs = omega (arith, least.within, carried.indexed.fits, length-set xs i e) in
           down-end no_later (order g) (set xs i e) (set xs i e) n i carried.within c.loop-hole.invariant.1
           (λ j d pos j-in p.
           compared no_later _ _ _ _ (get_or-set_same xs i e d (hole-in _ _ _ _ _ _ _ _ _ _ carried)) (get_or-set_other xs i j e d (λ z. omega arith))
           ((order g).transitive _ _ _
-          (compared no_later _ _ _ _ refl (get_or_default xs k d w.index-self-child.result lk) (sym w.if-no-later-than.ensures))
+          (compared no_later _ _ _ _ refl (get_or_default xs k d w.index-self-child.result lk) (sym w.if-no_later_than.ensures))
           (least.least j d pos j-in p)))
     ] in
     record {

@@ -6,7 +6,7 @@ use Rattle.queue.proofs.Order.{TotalOrder, up_step, up_top, up-end, compared}
 use Rattle.queue.proofs.Carrying.{hole-in, item_in, moved_in, exchanged, carrying-more}
 use Rattle.queue.proofs.Queue.sift_up.Given as given
 use Rattle.queue.proofs.Queue.sift_up.Goals as goal
-use Rattle.queue.proofs.Queue.sift_up.Goals.{else-loop-hole-test, then-loop-hole-test+then-no-later-than}
+use Rattle.queue.proofs.Queue.sift_up.Goals.{else-loop-hole-test, then-loop-hole-test+then-no_later_than}
 
 order : (g : given.Over) → TotalOrder g.T.QueueEntry.no_later
 order g = record { total = g.met.T.QueueEntry.total; transitive = g.met.T.QueueEntry.transitive }
@@ -37,7 +37,7 @@ loop-hole-preserved g c =
     let is_f : (d : g.row.T.Denot) → get_or xs (parent i) d ≡ get_or xs (parent i) c.index-self-parent.result = λ d. get_or_default xs (parent i) d c.index-self-parent.result lp in
     let late : (d : g.row.T.Denot) → no_later (get_or (set xs i e) (parent i) d) (get_or (set xs i e) i d) ≡ false =
     λ d. compared no_later _ _ _ _ (get_or-set_other xs i (parent i) e d apart ∙ is_f d)
-    (get_or-set_same xs i e d (hole-in _ _ _ _ _ _ _ _ _ _ carried)) (sym c.if-no-later-than.ensures) in
+    (get_or-set_same xs i e d (hole-in _ _ _ _ _ _ _ _ _ _ carried)) (sym c.if-no_later_than.ensures) in
     rw c.item-moved.ensures (
       carrying-more _ _ _ _ _ _ _ _ _ _ carried (parent i) _ p-in apart is_f,
       up_step no_later (order g) (set xs i e) _ _ i carried.within (parent i) refl pos c.loop-hole.invariant.1
@@ -56,14 +56,14 @@ returns g c =
     let settled : HeapOrdered no_later (set xs i e) n =
     elim c.loop-hole-test.branch [
       | else-loop-hole-test w ↦ up_top no_later (order g) (set xs i e) (set xs i e) n i carried.within (omega (arith, w.loop-hole-test.false)) c.loop-hole.invariant.1
-      | then-loop-hole-test+then-no-later-than w ↦
+      | then-loop-hole-test+then-no_later_than w ↦
           let apart : parent i ≡ i → ⊥ = λ z. omega (arith, w.loop-hole-test.true) in
           let lp : parent i < length xs = omega (arith, carried.within, carried.indexed.fits, length-set xs i e) in
           up-end no_later (order g) (set xs i e) (set xs i e) n i carried.within c.loop-hole.invariant.1
           (λ d.
           compared no_later _ _ _ _
           (get_or-set_other xs i (parent i) e d apart ∙ get_or_default xs (parent i) d w.index-self-parent.result lp)
-          (get_or-set_same xs i e d (hole-in _ _ _ _ _ _ _ _ _ _ carried)) (sym w.if-no-later-than.ensures))
+          (get_or-set_same xs i e d (hole-in _ _ _ _ _ _ _ _ _ _ carried)) (sym w.if-no_later_than.ensures))
     ] in
     record {
       sound = record {

@@ -20,11 +20,11 @@ pub returns : goal.returns
 returns g c =
     let pos : 0 < c.args.self.now.len = omega arith in
     record {
-      sound = c.remove-at.ensures.sound;
-      rows = c.remove-at.ensures.rows;
+      sound = c.remove_at.ensures.sound;
+      rows = c.remove_at.ensures.rows;
       taken = record {
         first = first-held g.T.QueueEntry.item_of g.T.QueueEntry.no_later (order g) c.args.self.now c.index-self-0.result pos c.requires;
-        changed = c.remove-at.ensures.changed c.index-self-0.result;
-        len = c.remove-at.ensures.len;
+        changed = c.remove_at.ensures.changed c.index-self-0.result;
+        len = c.remove_at.ensures.len;
       };
     }

@@ -6,7 +6,7 @@ use Rattle.std.proofs.lemmas.Bool.{both_ways}
 use Rattle.queue.specs.Content.{counted}
 use Rattle.queue_tests.specs.Lists.{held_in}
 use Rattle.queue_tests.proofs.plain_list.count.Goals as goal
-use Rattle.queue_tests.proofs.plain_list.count.Goals.{then-is-some, else-is-some}
+use Rattle.queue_tests.proofs.plain_list.count.Goals.{then-is_some, else-is_some}
 
 one : {X : Type 0} (o : Option X) → is_some o ≡ true → counted o ≡ 1
 one None h = absurd (both_ways false refl h)
@@ -22,10 +22,10 @@ loop-slot-preserved c =
     let i = c.loop-slot.slot-index in
     let slot = get_or list i None in
     let more : held_in (take (i + 1) list) ≡ held_in (take i list) + counted slot = fold_more (λ n s. n + counted s) 0 list i None c.loop-slot-test.true in
-    let is : is_some slot ≡ c.is-some.result = sym c.is-some.ensures in
-    elim c.if-is-some.branch [
-      | then-is-some w ↦ (omega (arith, w.held-is, more, one slot (is ∙ w.if-is-some.true), c.loop-slot.invariant.0), omega (arith, w.held-is, c.loop-slot.invariant.1))
-      | else-is-some w ↦ (omega (arith, w.held-is, more, zero_of slot (is ∙ w.if-is-some.false), c.loop-slot.invariant.0), omega (arith, w.held-is, c.loop-slot.invariant.1))
+    let is : is_some slot ≡ c.is_some.result = sym c.is_some.ensures in
+    elim c.if-is_some.branch [
+      | then-is_some w ↦ (omega (arith, w.held-is, more, one slot (is ∙ w.if-is_some.true), c.loop-slot.invariant.0), omega (arith, w.held-is, c.loop-slot.invariant.1))
+      | else-is_some w ↦ (omega (arith, w.held-is, more, zero_of slot (is ∙ w.if-is_some.false), c.loop-slot.invariant.0), omega (arith, w.held-is, c.loop-slot.invariant.1))
     ]
 
 pub returns : goal.returns

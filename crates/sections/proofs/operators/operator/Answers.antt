@@ -12,70 +12,70 @@ at-start seen es used fits h =
     let e : drop used (take used es) ≡ [] = drop_all used (take used es) (omega (arith, length-take-le used es fits)) in
     rw e h
 
-pub returns-in-err-group : goal.returns-in-err-group
-returns-in-err-group c =
-    let p = err_from_is_err_and c.from-residual-in-err-group.result c.from-residual-in-err-group.ensures.1 in
+pub returns-in_err-group : goal.returns-in_err-group
+returns-in_err-group c =
+    let p = err_from_is_err_and c.from_residual-in_err-group.result c.from_residual-in_err-group.ensures.1 in
     let es = c.args.entries.now in
     let used = c.args.used in
     let fits : used ≤ length es = omega arith in
     let len = length-take-le used es fits in
     let start = at-start c.none-seen.result es used fits c.none-seen.ensures in
-    record { reads = rw (c.in-ok-name.ensures, c.in-ok-conditions.ensures.reads, len, c.in-err-group.ensures.reads used (omega arith) start, p.1, p.2); room = rw p.1 tt }
+    record { reads = rw (c.in_ok-name.ensures, c.in_ok-conditions.ensures.reads, len, c.in_err-group.ensures.reads used (omega arith) start, p.1, p.2); room = rw p.1 tt }
 
-pub returns-in-err-effects : goal.returns-in-err-effects
-returns-in-err-effects c =
-    let p = err_from_is_err_and c.from-residual-in-err-effects.result c.from-residual-in-err-effects.ensures.1 in
+pub returns-in_err-effects : goal.returns-in_err-effects
+returns-in_err-effects c =
+    let p = err_from_is_err_and c.from_residual-in_err-effects.result c.from_residual-in_err-effects.ensures.1 in
     let es = c.args.entries.now in
     let used = c.args.used in
     let fits : used ≤ length es = omega arith in
     let len = length-take-le used es fits in
     let start = at-start c.none-seen.result es used fits c.none-seen.ensures in
-    record { reads = rw (c.in-ok-name.ensures, c.in-ok-conditions.ensures.reads, len, c.in-ok-group.ensures.reads used (omega arith) start, c.in-err-effects.ensures.reads, p.1, p.2); room = rw p.1 tt }
+    record { reads = rw (c.in_ok-name.ensures, c.in_ok-conditions.ensures.reads, len, c.in_ok-group.ensures.reads used (omega arith) start, c.in_err-effects.ensures.reads, p.1, p.2); room = rw p.1 tt }
 
-pub returns-in-err-group-2 : goal.returns-in-err-group-2
-returns-in-err-group-2 c =
-    let p = err_from_is_err_and c.from-residual-in-err-group-2.result c.from-residual-in-err-group-2.ensures.1 in
+pub returns-in_err-group-2 : goal.returns-in_err-group-2
+returns-in_err-group-2 c =
+    let p = err_from_is_err_and c.from_residual-in_err-group-2.result c.from_residual-in_err-group-2.ensures.1 in
     let es = c.args.entries.now in
     let used = c.args.used in
     let fits : used ≤ length es = omega arith in
     let len = length-take-le used es fits in
     let start = at-start c.none-seen.result es used fits c.none-seen.ensures in
-    let marked = c.in-ok-group.ensures.marks used (omega arith) start in
+    let marked = c.in_ok-group.ensures.marks used (omega arith) start in
     let one = c.group.new.entries in
     let k : length es ≡ length one = omega arith in
-    let two-step = c.in-err-group-2.ensures.reads used (omega arith) marked in
+    let two-step = c.in_err-group-2.ensures.reads used (omega arith) marked in
     let two-reads = rw (← k) at two-step in
-    record { reads = rw (c.in-ok-name.ensures, c.in-ok-conditions.ensures.reads, len, c.in-ok-group.ensures.reads used (omega arith) start, c.in-ok-effects.ensures.reads, two-reads, p.1, p.2); room = rw p.1 tt }
+    record { reads = rw (c.in_ok-name.ensures, c.in_ok-conditions.ensures.reads, len, c.in_ok-group.ensures.reads used (omega arith) start, c.in_ok-effects.ensures.reads, two-reads, p.1, p.2); room = rw p.1 tt }
 
-pub returns-in-err-price : goal.returns-in-err-price
-returns-in-err-price c =
-    let p = err_from_is_err_and c.from-residual-in-err-price.result c.from-residual-in-err-price.ensures.1 in
+pub returns-in_err-price : goal.returns-in_err-price
+returns-in_err-price c =
+    let p = err_from_is_err_and c.from_residual-in_err-price.result c.from_residual-in_err-price.ensures.1 in
     let es = c.args.entries.now in
     let used = c.args.used in
     let fits : used ≤ length es = omega arith in
     let len = length-take-le used es fits in
     let start = at-start c.none-seen.result es used fits c.none-seen.ensures in
-    let marked = c.in-ok-group.ensures.marks used (omega arith) start in
+    let marked = c.in_ok-group.ensures.marks used (omega arith) start in
     let one = c.group.new.entries in
     let k : length es ≡ length one = omega arith in
-    let two-step = c.in-ok-group-2.ensures.reads used (omega arith) marked in
+    let two-step = c.in_ok-group-2.ensures.reads used (omega arith) marked in
     let two-reads = rw (← k) at two-step in
-    record { reads = rw (c.in-ok-name.ensures, c.in-ok-conditions.ensures.reads, len, c.in-ok-group.ensures.reads used (omega arith) start, c.in-ok-effects.ensures.reads, two-reads, c.in-err-price.ensures.reads, p.1, p.2); room = rw p.1 tt }
+    record { reads = rw (c.in_ok-name.ensures, c.in_ok-conditions.ensures.reads, len, c.in_ok-group.ensures.reads used (omega arith) start, c.in_ok-effects.ensures.reads, two-reads, c.in_err-price.ensures.reads, p.1, p.2); room = rw p.1 tt }
 
-pub returns-in-err-word : goal.returns-in-err-word
-returns-in-err-word c =
-    let p = err_from_is_err_and c.from-residual-in-err-word.result c.from-residual-in-err-word.ensures.1 in
+pub returns-in_err-word : goal.returns-in_err-word
+returns-in_err-word c =
+    let p = err_from_is_err_and c.from_residual-in_err-word.result c.from_residual-in_err-word.ensures.1 in
     let es = c.args.entries.now in
     let used = c.args.used in
     let fits : used ≤ length es = omega arith in
     let len = length-take-le used es fits in
     let start = at-start c.none-seen.result es used fits c.none-seen.ensures in
-    let marked = c.in-ok-group.ensures.marks used (omega arith) start in
+    let marked = c.in_ok-group.ensures.marks used (omega arith) start in
     let one = c.group.new.entries in
     let k : length es ≡ length one = omega arith in
-    let two-step = c.in-ok-group-2.ensures.reads used (omega arith) marked in
+    let two-step = c.in_ok-group-2.ensures.reads used (omega arith) marked in
     let two-reads = rw (← k) at two-step in
-    record { reads = rw (c.in-ok-name.ensures, c.in-ok-conditions.ensures.reads, len, c.in-ok-group.ensures.reads used (omega arith) start, c.in-ok-effects.ensures.reads, two-reads, c.in-ok-price.ensures.reads, c.in-err-word.ensures, p.1, p.2); room = rw p.1 tt }
+    record { reads = rw (c.in_ok-name.ensures, c.in_ok-conditions.ensures.reads, len, c.in_ok-group.ensures.reads used (omega arith) start, c.in_ok-effects.ensures.reads, two-reads, c.in_ok-price.ensures.reads, c.in_err-word.ensures, p.1, p.2); room = rw p.1 tt }
 
 pub returns : goal.returns
 returns c =
@@ -84,13 +84,13 @@ returns c =
     let fits : used ≤ length es = omega arith in
     let len = length-take-le used es fits in
     let start = at-start c.none-seen.result es used fits c.none-seen.ensures in
-    let marked = c.in-ok-group.ensures.marks used (omega arith) start in
+    let marked = c.in_ok-group.ensures.marks used (omega arith) start in
     let one = c.group.new.entries in
     let k : length es ≡ length one = omega arith in
-    let two-step = c.in-ok-group-2.ensures.reads used (omega arith) marked in
+    let two-step = c.in_ok-group-2.ensures.reads used (omega arith) marked in
     let two-reads = rw (← k) at two-step in
-    let room-two = c.in-ok-group-2.ensures.room in
+    let room-two = c.in_ok-group-2.ensures.room in
     record {
-      reads = rw (c.in-ok-name.ensures, c.in-ok-conditions.ensures.reads, len, c.in-ok-group.ensures.reads used (omega arith) start, c.in-ok-effects.ensures.reads, two-reads, c.in-ok-price.ensures.reads, c.in-ok-word.ensures);
+      reads = rw (c.in_ok-name.ensures, c.in_ok-conditions.ensures.reads, len, c.in_ok-group.ensures.reads used (omega arith) start, c.in_ok-effects.ensures.reads, two-reads, c.in_ok-price.ensures.reads, c.in_ok-word.ensures);
       room = (omega arith, omega arith);
     }

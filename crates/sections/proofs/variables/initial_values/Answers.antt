@@ -6,14 +6,14 @@ use Rattle.sections.specs.Variables.{initials_of, with_initial}
 use Rattle.lines.specs.Views.{place_of}
 use Rattle.sections.proofs.variables.initial_values.Goals as goal
 
-pub returns-in-err-value : goal.returns-in-err-value
-returns-in-err-value c =
-    let p = err_from_is_err_and c.from-residual.result c.from-residual.ensures.1 in
+pub returns-in_err-value : goal.returns-in_err-value
+returns-in_err-value c =
+    let p = err_from_is_err_and c.from_residual.result c.from_residual.ensures.1 in
     let vs = c.loop-i.variables in
     let i = c.loop-i.i in
     let s = place_of c.loop-i.cursor in
     let e = at_drop_more (λ z. initials_of (take i vs) z s) vs i zero_variable (omega arith) in
-    c.loop-i.invariant ∙ (e ∙ rw (p.1, p.2, c.in-err-value.ensures.reads))
+    c.loop-i.invariant ∙ (e ∙ rw (p.1, p.2, c.in_err-value.ensures.reads))
 
 pub loop-i-preserved : goal.loop-i-preserved
 loop-i-preserved c =
@@ -21,10 +21,10 @@ loop-i-preserved c =
     let i = c.loop-i.i in
     let s = place_of c.loop-i.cursor in
     let e = at_drop_more (λ z. initials_of (take i vs) z s) vs i zero_variable (omega arith) in
-    let w = with_initial (get_or vs i zero_variable) c.in-ok-value.value in
+    let w = with_initial (get_or vs i zero_variable) c.in_ok-value.value in
     let more = take_more_set vs i w (omega arith) in
     let rest = drop-set-lt (i + 1) vs i w (omega arith) in
-    c.loop-i.invariant ∙ (e ∙ rw (c.in-ok-value.ensures.reads, more, rest))
+    c.loop-i.invariant ∙ (e ∙ rw (c.in_ok-value.ensures.reads, more, rest))
 
 pub returns : goal.returns
 returns c =

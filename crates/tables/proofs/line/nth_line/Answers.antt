@@ -4,14 +4,14 @@ use Rattle.tables.specs.Lines.{after_line, nth_line}
 use Rattle.tables.proofs.NthLines.{nth-empty, nth-more}
 use Rattle.tables.proofs.line.nth_line.Goals as goal
 
-pub returns-in-default : goal.returns-in-default
-returns-in-default c =
-    let m = nth-more c.args.index c.loop-i.-i c.loop-i.rest.now (omega arith) in
-    let e = ap (λ z. nth_line (c.args.index - (c.loop-i.-i + 1)) (after_line z)) c.in-default.ensures.halves in
-    sym (c.loop-i.invariant ∙ (m ∙ (e ∙ nth-empty (c.args.index - (c.loop-i.-i + 1)))))
+pub returns-in_default : goal.returns-in_default
+returns-in_default c =
+    let m = nth-more c.args.index c.loop-i._i c.loop-i.rest.now (omega arith) in
+    let e = ap (λ z. nth_line (c.args.index - (c.loop-i._i + 1)) (after_line z)) c.in_default.ensures.halves in
+    sym (c.loop-i.invariant ∙ (m ∙ (e ∙ nth-empty (c.args.index - (c.loop-i._i + 1)))))
 
 pub loop-i-preserved : goal.loop-i-preserved
 loop-i-preserved c =
-    let m = nth-more c.args.index c.loop-i.-i c.loop-i.rest.now (omega arith) in
-    let e = ap (λ z. nth_line (c.args.index - (c.loop-i.-i + 1)) (after_line z)) c.in-Some.ensures.halves in
+    let m = nth-more c.args.index c.loop-i._i c.loop-i.rest.now (omega arith) in
+    let e = ap (λ z. nth_line (c.args.index - (c.loop-i._i + 1)) (after_line z)) c.in-Some.ensures.halves in
     c.loop-i.invariant ∙ (m ∙ e)

@@ -29,15 +29,15 @@ returns c =
         long_weights = omega arith;
         long_goal = omega arith;
         long_parts = omega arith;
-        domains = λ i h. c.fill-domains.ensures i h ∙ sym (size i h);
-        weights = λ i h. c.fill-weights.ensures i h ∙ weight-whole t P i pat c.requires.few;
-        goal = λ i h. goal-cut P i T.goal (get_or c.fill-goal.new.goal i None) s h (c.fill-goal.ensures i h);
+        domains = λ i h. c.fill_domains.ensures i h ∙ sym (size i h);
+        weights = λ i h. c.fill_weights.ensures i h ∙ weight-whole t P i pat c.requires.few;
+        goal = λ i h. goal-cut P i T.goal (get_or c.fill_goal.new.goal i None) s h (c.fill_goal.ensures i h);
         parts = λ o i h l.
             let lo = length-map T.operators (cut_action P) in
             let lt = length-map t.operators.now (action t.entries.now) in
             let in-t : o < length T.operators = omega arith in
-            subst (λ z. PartOf z i (get_or (sizes T P) i 0) (get_or c.fill-operators.new.parts (8 * o + i) untouched)) (sym (operator-cut T P o in-t))
-            (subst (λ d. PartOf (cut_action P (operator T o)) i d (get_or c.fill-operators.new.parts (8 * o + i) untouched)) (sym (size i l))
-            (part_cut P i _ (operator T o) _ s l (c.fill-operators.ensures o i (omega arith) l)));
+            subst (λ z. PartOf z i (get_or (sizes T P) i 0) (get_or c.fill_operators.new.parts (8 * o + i) untouched)) (sym (operator-cut T P o in-t))
+            (subst (λ d. PartOf (cut_action P (operator T o)) i d (get_or c.fill_operators.new.parts (8 * o + i) untouched)) (sym (size i l))
+            (part_cut P i _ (operator T o) _ s l (c.fill_operators.ensures o i (omega arith) l)));
       };
     }

@@ -7,17 +7,17 @@ use Rattle.abstraction.proofs.Places.{places, domain-low, digit-of}
 use Rattle.abstraction.proofs.Ranks.{lead-same, rank-lead, product-end, digit-written}
 use Rattle.abstraction.proofs.abstract_task.AbstractTask.state_of.Goals as goal
 
-pub nonzero-div-state : goal.nonzero-div-state
-nonzero-div-state c = (digit-of c.args.self.now c.loop-place.place c.loop-place.rest c.requires.stands (omega arith) c.loop-place.invariant.2).some
+pub nonzero_div-state : goal.nonzero_div-state
+nonzero_div-state c = (digit-of c.args.self.now c.loop-place.place c.loop-place.rest c.requires.stands (omega arith) c.loop-place.invariant.2).some
 
-pub overflow-cast-state : goal.overflow-cast-state
-overflow-cast-state c =
+pub overflow_cast-state : goal.overflow_cast-state
+overflow_cast-state c =
     let d = (digit-of c.args.self.now c.loop-place.place c.loop-place.rest c.requires.stands (omega arith) c.loop-place.invariant.2).low in
     let l = domain-low c.args.self.now c.loop-place.place c.requires.stands (omega arith) in
     omega arith
 
-pub nonzero-rem-rest : goal.nonzero-rem-rest
-nonzero-rem-rest c = (digit-of c.args.self.now c.loop-place.place c.loop-place.rest c.requires.stands (omega arith) c.loop-place.invariant.2).some
+pub nonzero_rem-rest : goal.nonzero_rem-rest
+nonzero_rem-rest c = (digit-of c.args.self.now c.loop-place.place c.loop-place.rest c.requires.stands (omega arith) c.loop-place.invariant.2).some
 
 pub loop-place-preserved : goal.loop-place-preserved
 loop-place-preserved c =

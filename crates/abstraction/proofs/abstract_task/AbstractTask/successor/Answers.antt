@@ -8,14 +8,14 @@ use Rattle.abstraction.proofs.Places.{places, number-low, applied-state, applies
 use Rattle.abstraction.proofs.Ranks.{rank-lead}
 use Rattle.abstraction.proofs.abstract_task.AbstractTask.successor.Goals as goal
 
-pub overflow-mul-part : goal.overflow-mul-part
-overflow-mul-part c = let n = number-low c.args.self.now c.args.operator c.requires.number in omega arith
+pub overflow_mul-part : goal.overflow_mul-part
+overflow_mul-part c = let n = number-low c.args.self.now c.args.operator c.requires.number in omega arith
 
-pub overflow-add-part : goal.overflow-add-part
-overflow-add-part c = let n = number-low c.args.self.now c.args.operator c.requires.number in let f = c.requires.stands.pattern.few in omega arith
+pub overflow_add-part : goal.overflow_add-part
+overflow_add-part c = let n = number-low c.args.self.now c.args.operator c.requires.number in let f = c.requires.stands.pattern.few in omega arith
 
-pub offset-bounds-self-operator : goal.offset-bounds-self-operator
-offset-bounds-self-operator c = let n = number-low c.args.self.now c.args.operator c.requires.number in let f = c.requires.stands.pattern.few in omega arith
+pub offset_bounds-self-operator : goal.offset_bounds-self-operator
+offset_bounds-self-operator c = let n = number-low c.args.self.now c.args.operator c.requires.number in let f = c.requires.stands.pattern.few in omega arith
 
 pub bounds-self-operator : goal.bounds-self-operator
 bounds-self-operator c = let n = number-low c.args.self.now c.args.operator c.requires.number in let f = c.requires.stands.pattern.few in omega arith
@@ -30,15 +30,15 @@ returns-then-not-admits c = λ a.
     let Q = Admits (get_or c.args.state.now i 0) (get_or A.parts (8 * c.args.operator + i) untouched).required in
     subst (λ z. MatchBool z Q (Q → ⊥)) c.if-not-admits.true c.admits.ensures (applies-at A c.args.state.now c.args.operator i c.requires.stands (omega arith) a)
 
-pub overflow-mul-rank : goal.overflow-mul-rank
-overflow-mul-rank c = let r = (rank_step c.args.self.now c.args.state.now c.args.operator c.loop-place.place c.loop-place.rank c.value-after.result c.requires.stands c.requires.number c.requires.state (omega arith) c.loop-place.invariant.0 c.value-after.ensures).1 in omega arith
+pub overflow_mul-rank : goal.overflow_mul-rank
+overflow_mul-rank c = let r = (rank_step c.args.self.now c.args.state.now c.args.operator c.loop-place.place c.loop-place.rank c.value_after.result c.requires.stands c.requires.number c.requires.state (omega arith) c.loop-place.invariant.0 c.value_after.ensures).1 in omega arith
 
-pub overflow-add-rank : goal.overflow-add-rank
-overflow-add-rank c = let r = (rank_step c.args.self.now c.args.state.now c.args.operator c.loop-place.place c.loop-place.rank c.value-after.result c.requires.stands c.requires.number c.requires.state (omega arith) c.loop-place.invariant.0 c.value-after.ensures).1 in omega arith
+pub overflow_add-rank : goal.overflow_add-rank
+overflow_add-rank c = let r = (rank_step c.args.self.now c.args.state.now c.args.operator c.loop-place.place c.loop-place.rank c.value_after.result c.requires.stands c.requires.number c.requires.state (omega arith) c.loop-place.invariant.0 c.value_after.ensures).1 in omega arith
 
 pub loop-place-preserved : goal.loop-place-preserved
 loop-place-preserved c = (
-  (rank_step c.args.self.now c.args.state.now c.args.operator c.loop-place.place c.loop-place.rank c.value-after.result c.requires.stands c.requires.number c.requires.state (omega arith) c.loop-place.invariant.0 c.value-after.ensures).0,
+  (rank_step c.args.self.now c.args.state.now c.args.operator c.loop-place.place c.loop-place.rank c.value_after.result c.requires.stands c.requires.number c.requires.state (omega arith) c.loop-place.invariant.0 c.value_after.ensures).0,
   below_more (λ k. Admits (get_or c.args.state.now k 0) (get_or c.args.self.now.parts (8 * c.args.operator + k) untouched).required) c.loop-place.place c.loop-place.invariant.1 c.if-not-admits.ensures,
 )
 

@@ -4,4 +4,4 @@ use Rattle.layers.proofs.Kept.{take-front}
 use Rattle.layers.proofs.price_table.PriceTable.swap.Goals as goal
 
 pub returns : goal.returns
-returns c = record { kept = take-front _ _ _ c.swap-with-slice.ensures.after; back = search rules }
+returns c = record { kept = take-front _ _ _ c.swap_with_slice.ensures.after; back = search rules }

@@ -5,14 +5,14 @@ use Rattle.lines.specs.Views.{place_of}
 use Rattle.lines.proofs.Turns.{turns_more, turns-all}
 use Rattle.lines.proofs.cursor.Cursor.skip.Goals as goal
 
-pub returns-in-err-line : goal.returns-in-err-line
-returns-in-err-line c =
-    let p = err_from_is_err_and c.from-residual.result c.from-residual.ensures.1 in
-    c.loop-i.invariant ∙ (turns_more passed tt (place_of c.loop-i.self) c.args.count c.loop-i.-i (omega arith) ∙ rw (p.1, p.2, c.in-err-line.ensures))
+pub returns-in_err-line : goal.returns-in_err-line
+returns-in_err-line c =
+    let p = err_from_is_err_and c.from_residual.result c.from_residual.ensures.1 in
+    c.loop-i.invariant ∙ (turns_more passed tt (place_of c.loop-i.self) c.args.count c.loop-i._i (omega arith) ∙ rw (p.1, p.2, c.in_err-line.ensures))
 
 pub loop-i-preserved : goal.loop-i-preserved
 loop-i-preserved c =
-    c.loop-i.invariant ∙ (turns_more passed tt (place_of c.loop-i.self) c.args.count c.loop-i.-i (omega arith) ∙ rw c.in-ok-line.ensures)
+    c.loop-i.invariant ∙ (turns_more passed tt (place_of c.loop-i.self) c.args.count c.loop-i._i (omega arith) ∙ rw c.in_ok-line.ensures)
 
 pub returns : goal.returns
-returns c = c.loop-i.invariant ∙ turns-all passed tt (place_of c.loop-i.self) c.args.count c.loop-i.-i (omega arith)
+returns c = c.loop-i.invariant ∙ turns-all passed tt (place_of c.loop-i.self) c.args.count c.loop-i._i (omega arith)

@@ -4,4 +4,4 @@ use Rattle.lines.specs.Views.{place_of}
 use Rattle.lines.proofs.cursor.Cursor.skip.Given as goal
 
 abbrev pub invariant-loop-i : goal.invariant-loop-i
-invariant-loop-i l = turns l.count passed tt (place_of l.initial.self) ≡ turns (l.count - l.-i) passed tt (place_of l.self)
+invariant-loop-i l = turns l.count passed tt (place_of l.initial.self) ≡ turns (l.count - l._i) passed tt (place_of l.self)

@@ -7,19 +7,19 @@ pub returns-then-same : goal.returns-then-same
 unfolding number_of
 returns-then-same c = rw c.if-same.ensures
 
-pub returns-then-not-is-natural : goal.returns-then-not-is-natural
+pub returns-then-not-is_natural : goal.returns-then-not-is_natural
 unfolding number_of
-returns-then-not-is-natural c = rw (c.if-same.ensures, c.if-not-is-natural.ensures)
+returns-then-not-is_natural c = rw (c.if-same.ensures, c.if-not-is_natural.ensures)
 
 pub returns-then-bytes-gt9 : goal.returns-then-bytes-gt9
 unfolding number_of
 returns-then-bytes-gt9 c =
     let long : leb (length c.args.bytes.now) 9 ≡ false = grind (arith, nat_tests) in
-    rw (c.if-same.ensures, c.if-not-is-natural.ensures, long)
+    rw (c.if-same.ensures, c.if-not-is_natural.ensures, long)
 
 pub value-requires : goal.value-requires
 value-requires c =
-    let e = c.if-not-is-natural.ensures in
+    let e = c.if-not-is_natural.ensures in
     let d : all_digits c.args.bytes.now ≡ true = grind (arith, nat_tests) in
     (omega arith, d)
 
@@ -27,4 +27,4 @@ pub returns : goal.returns
 unfolding number_of
 returns c =
     let short : leb (length c.args.bytes.now) 9 ≡ true = grind (arith, nat_tests) in
-    rw (c.if-same.ensures, c.if-not-is-natural.ensures, short, c.value.ensures)
+    rw (c.if-same.ensures, c.if-not-is_natural.ensures, short, c.value.ensures)

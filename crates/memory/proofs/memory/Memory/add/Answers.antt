@@ -3,8 +3,8 @@ use Rattle.std.proofs.Common.{◌≡◌, ◌+◌, ◌*◌, ◌<◌, ◌≤◌, s
 use Rattle.memory.proofs.Changes.{Added, add_done, add-untouched}
 use Rattle.memory.proofs.memory.Memory.add.Goals as goal
 
-pub copy-in-requires : goal.copy-in-requires
-copy-in-requires c =
+pub copy_in-requires : goal.copy_in-requires
+copy_in-requires c =
     let m = c.args.self.now in
     let l : m.held < m.capacity = c.requires.capacity in
     omega (arith, c.requires.consistent.lent.states, c.requires.width, mul-le-mul_right m.variables l)
@@ -12,6 +12,6 @@ copy-in-requires c =
 pub returns : goal.returns
 returns c =
     let m = c.args.self.now in
-    let a : Added m _ c.args.at c.args.state.now c.args.new = record { variables = refl; capacity = refl; held = refl; nodes = refl; index = refl; queue = refl; long = omega arith; inside = λ j l. c.copy-in.ensures.inside j l; before = λ j l. c.copy-in.ensures.before j l; beyond = λ j l. c.copy-in.ensures.beyond j l } in
+    let a : Added m _ c.args.at c.args.state.now c.args.new = record { variables = refl; capacity = refl; held = refl; nodes = refl; index = refl; queue = refl; long = omega arith; inside = λ j l. c.copy_in.ensures.inside j l; before = λ j l. c.copy_in.ensures.before j l; beyond = λ j l. c.copy_in.ensures.beyond j l } in
     let d = add_done m _ c.args.at c.args.state.now c.args.new c.requires.consistent c.requires.capacity c.requires.width c.requires.vacant a in
     record { consistent = d.0; untouched = add-untouched m _ c.args.at c.args.state.now c.args.new c.requires.consistent c.requires.capacity c.requires.width c.requires.vacant a; held = refl; nodes = d.1 }

@@ -5,8 +5,8 @@ use Rattle.task.specs.Model.{model}
 use Rattle.memory.proofs.Tables.{goal-of, slice-width}
 use Rattle.memory.proofs.memory.Memory.at_goal.Goals as goal
 
-pub slice-bounds-has-goal-end : goal.slice-bounds-has-goal-end
-slice-bounds-has-goal-end c =
+pub slice_bounds-has_goal-end : goal.slice_bounds-has_goal-end
+slice_bounds-has_goal-end c =
     let m = c.args.self.now in
     let l : c.args.node < m.capacity = omega (arith, c.requires.consistent.within) in
     omega (arith, c.requires.consistent.lent.states, mul-le-mul_right m.variables l)
@@ -17,5 +17,5 @@ returns c =
     let k = c.args.node in
     let bs = m.states.now in
     let l : k < m.capacity = omega (arith, c.requires.consistent.within) in
-    goal-of c.has-goal.result (model c.args.task.now) _ (take m.variables (drop (k * m.variables) bs)) (ap (λ n. take n (drop (k * m.variables) bs)) (omega arith))
-    (slice-width m.variables k m.capacity bs l c.requires.consistent.lent.states ∙ c.requires.variables ∙ sym (length-map c.args.task.now.variables.now (λ v. v.domain))) c.has-goal.ensures
+    goal-of c.has_goal.result (model c.args.task.now) _ (take m.variables (drop (k * m.variables) bs)) (ap (λ n. take n (drop (k * m.variables) bs)) (omega arith))
+    (slice-width m.variables k m.capacity bs l c.requires.consistent.lent.states ∙ c.requires.variables ∙ sym (length-map c.args.task.now.variables.now (λ v. v.domain))) c.has_goal.ensures

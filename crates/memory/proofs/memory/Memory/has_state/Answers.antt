@@ -5,8 +5,8 @@ use Rattle.memory.proofs.Tables.{decided}
 use Rattle.memory.proofs.memory.Memory.has_state.Goals as goal
 use Rattle.std.proofs.lemmas.Bool.Decides.{Decides-eqb}
 
-pub slice-bounds-row-end : goal.slice-bounds-row-end
-slice-bounds-row-end c =
+pub slice_bounds-row-end : goal.slice_bounds-row-end
+slice_bounds-row-end c =
     let l : c.args.node < c.args.self.now.capacity = omega (arith, c.requires.consistent.within) in
     omega (arith, c.requires.consistent.lent.states, mul-le-mul_right c.args.self.now.variables l)
 

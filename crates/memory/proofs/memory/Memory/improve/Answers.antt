@@ -16,8 +16,8 @@ reopen-requires c = omega (arith, c.requires.consistent.within, c.requires.consi
 pub put-requires : goal.put-requires
 put-requires c = c.requires.consistent.sound
 
-pub drop-item-requires : goal.drop-item-requires
-drop-item-requires c = c.requires.consistent.sound
+pub drop_item-requires : goal.drop_item-requires
+drop_item-requires c = c.requires.consistent.sound
 
 pub returns-in-Some : goal.returns-in-Some
 returns-in-Some c =
@@ -44,9 +44,9 @@ returns-in-None c =
     let i : Improved m _ k c.args.new None = record {
       kept = record { variables = refl; capacity = refl; held = refl; states = refl; index = refl };
       nodes = c.reopen.ensures;
-      rows = c.drop-item.ensures.rows;
-      sound = c.drop-item.ensures.sound;
-      changed = c.drop-item.ensures.dropped;
+      rows = c.drop_item.ensures.rows;
+      sound = c.drop_item.ensures.sound;
+      changed = c.drop_item.ensures.dropped;
       entry = λ y q. absurd (some-none None y q refl);
     } in
     let d = improve-done m _ k c.args.new None c.requires.consistent c.requires.inside i in

@@ -19,8 +19,8 @@ returns-then-current-eq0 c =
     let b = c.loop-steps.invariant.1 in
     (b.0, branch-all (nodes_of c.args.self.now) c.loop-steps.current c.args.node b.0 c.if-current-eq0.true b.1, b.3, b.4)
 
-pub line-back-at-requires : goal.line-back-at-requires
-line-back-at-requires c =
+pub line_back-at-requires : goal.line_back-at-requires
+line_back-at-requires c =
     let m = c.args.self.now in
     let ns = nodes_of m in
     let t = c.args.task.now in
@@ -29,7 +29,7 @@ line-back-at-requires c =
     let l : k < length ns = omega (arith, c.loop-steps.invariant.0, count_of m) in
     let e : (plain.node ns k).operator ≡ (record_at m k).operator = ap (λ z. z.operator) (node-is m k c.loop-steps.invariant.0) in
     record {
-      fits = subst (λ z. length z + 3 ≤ c.loop-steps.at) (ap (operator_name t) e ∙ sym c.name-of-name.ensures)
+      fits = subst (λ z. length z + 3 ≤ c.loop-steps.at) (ap (operator_name t) e ∙ sym c.name_of-name.ensures)
           (room-more (operator_name t) ns k c.args.node c.loop-steps.at c.args.end b.0 c.requires.tree l c.if-current-eq0.false b.1 c.requires.fits b.3);
       within = omega (arith, b.3);
     }
@@ -45,8 +45,8 @@ loop-steps-preserved c =
     let l : k < length ns = omega (arith, c.loop-steps.invariant.0, count_of m) in
     let e : (plain.node ns k).parent ≡ (record_at m k).parent = ap (λ z. z.parent) (node-is m k c.loop-steps.invariant.0) in
     let f : (plain.node ns k).operator ≡ by = ap (λ z. z.operator) (node-is m k c.loop-steps.invariant.0) in
-    let x = c.line-back-at.ensures in
-    let q = c.name-of-name.ensures in (
+    let x = c.line_back-at.ensures in
+    let q = c.name_of-name.ensures in (
       omega (arith, e, count_of m, (c.requires.tree.back k l c.if-current-eq0.false).0),
       (
         by ∷ b.0,

@@ -20,8 +20,8 @@ returns-then-current-eq0 c =
       low = omega (arith, c.loop-steps.invariant.1, c.requires.consistent.within, c.requires.consistent.lent.small);
     }
 
-pub overflow-add-len : goal.overflow-add-len
-overflow-add-len c = omega (arith, c.loop-steps.invariant.1, c.requires.consistent.within, c.requires.consistent.lent.small)
+pub overflow_add-len : goal.overflow_add-len
+overflow_add-len c = omega (arith, c.loop-steps.invariant.1, c.requires.consistent.within, c.requires.consistent.lent.small)
 
 pub loop-steps-preserved : goal.loop-steps-preserved
 loop-steps-preserved c =
@@ -40,7 +40,7 @@ loop-steps-preserved c =
         by ∷ b.0,
         subst (λ z. BranchTo ns (record_at m k).parent c.args.node (z ∷ b.0)) f (subst (λ z. BranchTo ns z c.args.node ((plain.node ns k).operator ∷ b.0)) e (branch-more ns k c.args.node b.0 c.if-current-eq0.false l b.1)),
         omega (arith, b.2),
-        omega (arith, b.3, ap length c.name-of-name.ensures, lines_more name by b.0),
+        omega (arith, b.3, ap length c.name_of-name.ensures, lines_more name by b.0),
       ),
     )
 

@@ -4,21 +4,21 @@ use Rattle.memory.proofs.Words.{indexed-none}
 use Rattle.memory.proofs.Changes.{some-none}
 use Rattle.memory.proofs.memory.Memory.open.Goals as goal
 
-pub split-at-mut-words-requires : goal.split-at-mut-words-requires
-split-at-mut-words-requires c = omega (arith, c.capacity-of-capacity.ensures.fits.in_words)
+pub split_at_mut-words-requires : goal.split_at_mut-words-requires
+split_at_mut-words-requires c = omega (arith, c.capacity_of-capacity.ensures.fits.in_words)
 
 pub returns : goal.returns
 returns c =
-    let f = c.capacity-of-capacity.ensures.fits in
+    let f = c.capacity_of-capacity.ensures.fits in
     record {
       consistent = record {
         lent = record {
           small = f.small;
           nodes = f.in_nodes;
           states = f.in_states;
-          index = omega (arith, c.split-at-mut-words.ensures.front-len);
-          entries = subst (λ z. c.capacity-of-capacity.result ≤ length z) (sym c.new-queue.ensures.entries) f.in_entries;
-          places = subst (λ z. c.capacity-of-capacity.result ≤ length z) (sym c.new-queue.ensures.places) f.in_places;
+          index = omega (arith, c.split_at_mut-words.ensures.front_len);
+          entries = subst (λ z. c.capacity_of-capacity.result ≤ length z) (sym c.new-queue.ensures.entries) f.in_entries;
+          places = subst (λ z. c.capacity_of-capacity.result ≤ length z) (sym c.new-queue.ensures.places) f.in_places;
         };
         within = omega arith;
         indexed = indexed-none c.clear.new.words _ c.clear.ensures;
@@ -27,7 +27,7 @@ returns c =
       };
       empty = refl;
       variables = refl;
-      capacity = c.capacity-of-capacity.ensures;
+      capacity = c.capacity_of-capacity.ensures;
       nodes = refl;
       states = refl;
     }

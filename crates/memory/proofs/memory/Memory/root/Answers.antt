@@ -11,8 +11,8 @@ use Rattle.memory.proofs.Changes.{untouched-both}
 use Rattle.memory.proofs.Starting.{empty-nodes}
 use Rattle.memory.proofs.memory.Memory.root.Goals as goal
 
-pub queue-new-requires : goal.queue-new-requires
-queue-new-requires g c =
+pub queue_new-requires : goal.queue_new-requires
+queue_new-requires g c =
     let m = c.args.self.now in
     record {
       consistent = c.add.ensures.consistent;
@@ -28,13 +28,13 @@ pub returns-in-Free : goal.returns-in-Free
 returns-in-Free g c =
     let m = c.args.self.now in
     let t = model c.args.task.now in
-    let s = c.initial-into.new.row in
+    let s = c.initial_into.new.row in
     let w = c.estimate-answer.result in
-    let i : s ≡ t.initial = filled c.initial-into.result c.args.state.now t.initial s (c.requires.width ∙ c.requires.variables ∙ sym (length-map c.args.task.now.variables.now (λ v. v.initial))) c.initial-into.ensures in
-    let ns = add-settle (nodes_of m) (nodes_of c.add.new.self) (nodes_of c.queue-new.new.self) 0 s 0 0 0 w (omega (arith, count_of m, c.requires.empty)) c.add.ensures.nodes c.queue-new.ensures.nodes in
+    let i : s ≡ t.initial = filled c.initial_into.result c.args.state.now t.initial s (c.requires.width ∙ c.requires.variables ∙ sym (length-map c.args.task.now.variables.now (λ v. v.initial))) c.initial_into.ensures in
+    let ns = add-settle (nodes_of m) (nodes_of c.add.new.self) (nodes_of c.queue_new.new.self) 0 s 0 0 0 w (omega (arith, count_of m, c.requires.empty)) c.add.ensures.nodes c.queue_new.ensures.nodes in
     record {
-      consistent = c.queue-new.ensures.consistent;
-      untouched = untouched-both m c.add.new.self c.queue-new.new.self c.add.ensures.untouched c.queue-new.ensures.untouched;
+      consistent = c.queue_new.ensures.consistent;
+      untouched = untouched-both m c.add.new.self c.queue_new.new.self c.add.ensures.untouched c.queue_new.ensures.untouched;
       rooted = record {
         queued = w;
         asked = subst (λ z. g.E.Estimator.answers c.args.estimator.now t z w c.estimate-answer.new.self) i c.estimate-answer.ensures;

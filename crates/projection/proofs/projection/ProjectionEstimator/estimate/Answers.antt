@@ -11,7 +11,7 @@ pub returns-then-rank-self : goal.returns-then-rank-self
 returns-then-rank-self c =
     let s = c.args.self.now in
     let T = model c.args.task.now in
-    let st = c.if-not-is-state.ensures in
+    let st = c.if-not-is_state.ensures in
     let r = c.in-Some.ensures.1 in
     let far = c.if-rank-self.true in
     astray c.if-not-self.false st (λ i. let w = i.within in omega arith) (λ v. let w = (served s T c.args.state.now st v).inside.within in omega arith) refl refl
@@ -21,7 +21,7 @@ returns-then-distance c =
     let s = c.args.self.now in
     let T = model c.args.task.now in
     let state = c.args.state.now in
-    let st = c.if-not-is-state.ensures in
+    let st = c.if-not-is_state.ensures in
     let r = c.in-Some.ensures in
     let near = c.if-rank-self.false in
     let same = r.1 in
@@ -34,7 +34,7 @@ returns-else-distance c =
     let s = c.args.self.now in
     let T = model c.args.task.now in
     let state = c.args.state.now in
-    let st = c.if-not-is-state.ensures in
+    let st = c.if-not-is_state.ensures in
     let r = c.in-Some.ensures in
     let near = c.if-rank-self.false in
     let same = r.1 in

@@ -2,8 +2,8 @@
 use Rattle.queue.proofs.Props.{sound-out}
 use Rattle.queue_tests.proofs.open_list.OpenList.drop_item.Goals as goal
 
-pub drop-item-requires : goal.drop-item-requires
-drop-item-requires c = sound-out c.args.self.now.sound
+pub drop_item-requires : goal.drop_item-requires
+drop_item-requires c = sound-out c.args.self.now.sound
 
-pub invariant-of-self : goal.invariant-of-self
-invariant-of-self c = (∣ c.drop-item.ensures.sound ∣₁, tt)
+pub invariant_of-self : goal.invariant_of-self
+invariant_of-self c = (∣ c.drop_item.ensures.sound ∣₁, tt)

@@ -5,5 +5,5 @@ use Rattle.queue_tests.proofs.open_list.OpenList.take.Goals as goal
 pub take-requires : goal.take-requires
 take-requires c = sound-out c.args.self.now.sound
 
-pub invariant-of-self : goal.invariant-of-self
-invariant-of-self c = (∣ c.take.ensures.sound ∣₁, tt)
+pub invariant_of-self : goal.invariant_of-self
+invariant_of-self c = (∣ c.take.ensures.sound ∣₁, tt)

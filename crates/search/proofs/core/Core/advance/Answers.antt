@@ -22,9 +22,9 @@ run-event-requires g c =
       limits = (stands_at (model c.args.task.now) s Running c.in-Running.is c.requires).0;
     }
 
-pub returns-in-default : goal.returns-in-default
-returns-in-default g c =
-    record { valid = c.requires; untouched = untouched-same c.args.self.now.memory; does = not_running (not-running c.args.self.now.status c.in-default.not-Running) refl refl refl; tells = (refl, refl) }
+pub returns-in_default : goal.returns-in_default
+returns-in_default g c =
+    record { valid = c.requires; untouched = untouched-same c.args.self.now.memory; does = not_running (not-running c.args.self.now.status c.in_default.not-Running) refl refl refl; tells = (refl, refl) }
 
 pub returns : goal.returns
 returns g c =

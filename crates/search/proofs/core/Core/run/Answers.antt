@@ -21,8 +21,8 @@ step-event-requires g c =
       limits = subst (λ z. WithinLimits (model c.args.task.now) z c.loop-made.self.total (nodes_of c.loop-made.self.memory)) (sym v.1.capacity) v.4;
     }
 
-pub returns-in-default : goal.returns-in-default
-returns-in-default g c =
+pub returns-in_default : goal.returns-in_default
+returns-in_default g c =
     let s = c.args.self.now in
     let s₁ = c.loop-made.self in
     let t = model c.args.task.now in
@@ -33,7 +33,7 @@ returns-in-default g c =
       consistent = x.consistent;
       untouched = untouched-both s.memory s₁.memory c.step-event.new.self.memory v.1 x.untouched;
       runs = x.runs;
-      ran = stopped c.loop-made.made (plain_of s₁) c.loop-made.estimator (stops-of est t s.memory.capacity c.step-event.result c.in-default.not-Expanded) (omega arith) v.5
+      ran = stopped c.loop-made.made (plain_of s₁) c.loop-made.estimator (stops-of est t s.memory.capacity c.step-event.result c.in_default.not-Expanded) (omega arith) v.5
           (stepped-room est t s.memory.capacity s₁.memory.capacity (plain_of s₁) (plain_of c.step-event.new.self) c.loop-made.estimator c.step-event.new.estimator c.step-event.result v.1.capacity x.stepped);
     }
 

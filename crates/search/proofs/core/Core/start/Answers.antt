@@ -21,21 +21,21 @@ use Rattle.search.proofs.core.Core.start.Goals as goal
 pub returns-then-self-eq0 : goal.returns-then-self-eq0
 returns-then-self-eq0 g c = record { valid = c.requires; untouched = untouched-same c.args.self.now.memory; does = no_capacity (ap status_of c.in-Fresh.is) (omega arith) refl refl refl }
 
-pub returns-in-default : goal.returns-in-default
-returns-in-default g c = record { valid = c.requires; untouched = untouched-same c.args.self.now.memory; does = not_fresh (not-fresh c.args.self.now.status c.in-default.not-Fresh) refl refl refl }
+pub returns-in_default : goal.returns-in_default
+returns-in_default g c = record { valid = c.requires; untouched = untouched-same c.args.self.now.memory; does = not_fresh (not-fresh c.args.self.now.status c.in_default.not-Fresh) refl refl refl }
 
-pub returns-then-not-prices-into : goal.returns-then-not-prices-into
-returns-then-not-prices-into g c =
+pub returns-then-not-prices_into : goal.returns-then-not-prices_into
+returns-then-not-prices_into g c =
     let t = model c.args.task.now in
-    let n = c.if-not-prices-into.ensures in
+    let n = c.if-not-prices_into.ensures in
     record {
       valid = c.requires;
       untouched = untouched-same c.args.self.now.memory;
       does = wrong_row (ap status_of c.in-Fresh.is) (omega arith) (λ q. n.0 (q ∙ sym (length-map t.operators (λ o. o.price)))) (λ j. reports (plain.refusal cause.Row) (n.1 j) false (plain_of c.args.self.now)) refl refl;
     }
 
-pub slice-bounds-state-end : goal.slice-bounds-state-end
-slice-bounds-state-end g c = omega (arith, c.requires.variables, length-map c.args.task.now.variables.now (λ v. v.domain), c.args.task.now.few)
+pub slice_bounds-state-end : goal.slice_bounds-state-end
+slice_bounds-state-end g c = omega (arith, c.requires.variables, length-map c.args.task.now.variables.now (λ v. v.domain), c.args.task.now.few)
 
 pub root-requires : goal.root-requires
 root-requires g c =
@@ -55,12 +55,12 @@ returns-in-Err g c =
     let t = model c.args.task.now in
     let f = c.in-Err.fault in
     let left = c.set.new.row in
-    let q = subst (λ z. g.E.Estimator.sets c.args.estimator.now t z 1 (Err f) left c.set.new.self) c.if-not-prices-into.ensures.1 c.in-Err.ensures in
+    let q = subst (λ z. g.E.Estimator.sets c.args.estimator.now t z 1 (Err f) left c.set.new.self) c.if-not-prices_into.ensures.1 c.in-Err.ensures in
     let back = (g.E.Estimator.laws.refuses q).1 in
     record {
       valid = c.requires;
       untouched = untouched-same c.args.self.now.memory;
-      does = refused_set f left (ap status_of c.in-Fresh.is) (omega arith) (c.if-not-prices-into.ensures.0 ∙ length-map t.operators (λ o. o.price)) q
+      does = refused_set f left (ap status_of c.in-Fresh.is) (omega arith) (c.if-not-prices_into.ensures.0 ∙ length-map t.operators (λ o. o.price)) q
           (λ j. reports (plain.refused (Set f)) (back j) false (plain_of s)) refl;
     }
 
@@ -72,7 +72,7 @@ returns g c =
     let x = c.root.ensures in
     let w = x.rooted.queued in
     let fresh = stands_at t s Fresh c.in-Fresh.is c.requires in
-    let q = subst (λ z. g.E.Estimator.sets c.args.estimator.now t z 1 (Ok tt) left c.set.new.self) c.if-not-prices-into.ensures.1 c.in-default-set.ensures in
+    let q = subst (λ z. g.E.Estimator.sets c.args.estimator.now t z 1 (Ok tt) left c.set.new.self) c.if-not-prices_into.ensures.1 c.in_default-set.ensures in
     let some : 0 < c.root.new.self.capacity = omega (arith, x.untouched.capacity) in
     record {
       valid = record {
@@ -81,6 +81,6 @@ returns g c =
         stands = (subst (λ z. WithinLimits t c.root.new.self.capacity z (nodes_of c.root.new.self)) (sym fresh.2) (root-limits t c.root.new.self.capacity (nodes_of c.root.new.self) t.initial w some x.rooted.nodes), root-tree (nodes_of c.root.new.self) t.initial w x.rooted.nodes);
       };
       untouched = x.untouched;
-      does = begins left c.set.new.self w (ap status_of c.in-Fresh.is) (omega arith) (c.if-not-prices-into.ensures.0 ∙ length-map t.operators (λ o. o.price)) q x.rooted.asked
+      does = begins left c.set.new.self w (ap status_of c.in-Fresh.is) (omega arith) (c.if-not-prices_into.ensures.0 ∙ length-map t.operators (λ o. o.price)) q x.rooted.asked
           (λ j. record { status = plain.running; nodes = x.rooted.nodes j; bound = fresh.1 j; total = fresh.2 j }) refl;
     }

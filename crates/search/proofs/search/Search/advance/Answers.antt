@@ -6,8 +6,8 @@ use Rattle.search.proofs.search.Search.advance.Goals as goal
 pub advance-requires : goal.advance-requires
 advance-requires g c = valid-out c.args.self.now.ok
 
-pub invariant-of-self : goal.invariant-of-self
-invariant-of-self g c = (∣ c.advance.ensures.valid ∣₁, tt)
+pub invariant_of-self : goal.invariant_of-self
+invariant_of-self g c = record { ok = ∣ c.advance.ensures.valid ∣₁ }
 
 pub returns : goal.returns
 returns g c = record { same = refl; untouched = c.advance.ensures.untouched; does = c.advance.ensures.does; tells = c.advance.ensures.tells }

@@ -18,10 +18,10 @@ returns-in-Start g c =
     let lent : List ℕ → Lent = λ row. record { row = row; buffer = c.args.buffer.now } in
     let est = kind_of g.E.Estimator.unset g.E.Estimator.holds g.E.Estimator.sets g.E.Estimator.answers in
     record {
-      same = c.start-part.ensures.same;
-      untouched = c.start-part.ensures.untouched;
-      does = subst (λ z. OneCall est (model s.task) s.core.memory.capacity (plan_text s.task) z (lent c.args.row.now) (plain_of s.core) c.args.estimator.now c.start-part.result (lent c.start-part.new.row) (plain_of c.start-part.new.self.core) c.start-part.new.estimator)
-          (sym c.in-Start.is) (c.start-part.ensures.does c.args.buffer.now);
+      same = c.start_part.ensures.same;
+      untouched = c.start_part.ensures.untouched;
+      does = subst (λ z. OneCall est (model s.task) s.core.memory.capacity (plan_text s.task) z (lent c.args.row.now) (plain_of s.core) c.args.estimator.now c.start_part.result (lent c.start_part.new.row) (plain_of c.start_part.new.self.core) c.start_part.new.estimator)
+          (sym c.in-Start.is) (c.start_part.ensures.does c.args.buffer.now);
     }
 
 pub returns-in-Advance : goal.returns-in-Advance
@@ -71,9 +71,9 @@ returns-in-Write g c =
     let est = kind_of g.E.Estimator.unset g.E.Estimator.holds g.E.Estimator.sets g.E.Estimator.answers in
     let f : plain.Find = record { node = c.in-Write.node; cost = c.in-Write.cost } in
     let p = c.in-Write.part in
-    let x = c.write-part.ensures in
+    let x = c.write_part.ensures in
     let once : OneCall est (model s.task) s.core.memory.capacity (plan_text s.task) (calls.Write c.in-Write.node c.in-Write.cost p) (lent c.args.buffer.now) (plain_of s.core) c.args.estimator.now
-    c.write-part.result (lent c.write-part.new.buffer) (plain_of s.core) c.args.estimator.now = record {
+    c.write_part.result (lent c.write_part.new.buffer) (plain_of s.core) c.args.estimator.now = record {
       step = record { call = plain.write f (part_of p c.args.buffer.now); answer = x.0 };
       asked = (refl, refl, x.4);
       says = record { outcome = x.2; go = x.3; tells = tt };
@@ -83,5 +83,5 @@ returns-in-Write g c =
       same = refl;
       untouched = untouched-same s.core.memory;
       does = subst (λ z. OneCall est (model s.task) s.core.memory.capacity (plan_text s.task) z (lent c.args.buffer.now) (plain_of s.core) c.args.estimator.now
-          c.write-part.result (lent c.write-part.new.buffer) (plain_of s.core) c.args.estimator.now) (sym c.in-Write.is) once;
+          c.write_part.result (lent c.write_part.new.buffer) (plain_of s.core) c.args.estimator.now) (sym c.in-Write.is) once;
     }

@@ -6,8 +6,8 @@ use Rattle.plain.specs.Plain as plain
 use Rattle.memory.proofs.Starting.{empty-nodes}
 use Rattle.search.proofs.search.Search.open.Goals as goal
 
-pub invariant-of-result : goal.invariant-of-result
-invariant-of-result c = (∣ record { consistent = c.open-memory.ensures.consistent; variables = c.open-memory.ensures.variables ∙ sym (length-map c.args.task.variables.now (λ v. v.domain)); stands = (c.open-memory.ensures.empty, refl, refl) } ∣₁, tt)
+pub invariant_of-result : goal.invariant_of-result
+invariant_of-result c = record { ok = ∣ record { consistent = c.open-memory.ensures.consistent; variables = c.open-memory.ensures.variables ∙ sym (length-map c.args.task.variables.now (λ v. v.domain)); stands = (c.open-memory.ensures.empty, refl, refl) } ∣₁ }
 
 pub returns : goal.returns
 returns c = record {

@@ -13,11 +13,11 @@ kept : (T : Model) (s : List ℕ) (i : ℕ) (after : List ℕ) (r : Bool) → We
 kept T s i after true w m h = rw m.2 (w.stays s i h m.1)
 kept T s i after false w m h = rw m.1 h
 
-pub returns-then-not-is-state : goal.returns-then-not-is-state
-returns-then-not-is-state c = record { moved = (λ p. c.if-not-is-state.ensures p.0, refl); state = λ h. h }
+pub returns-then-not-is_state : goal.returns-then-not-is_state
+returns-then-not-is_state c = record { moved = (λ p. c.if-not-is_state.ensures p.0, refl); state = λ h. h }
 
 pub returns : goal.returns
 returns c = record {
-  moved = moved _ _ _ _ c.apply-to-row.result c.if-not-is-state.ensures c.apply-to-row.ensures;
-  state = kept _ _ _ _ c.apply-to-row.result (task-well-formed c.args.self.now) c.apply-to-row.ensures;
+  moved = moved _ _ _ _ c.apply_to_row.result c.if-not-is_state.ensures c.apply_to_row.ensures;
+  state = kept _ _ _ _ c.apply_to_row.result (task-well-formed c.args.self.now) c.apply_to_row.ensures;
 }

@@ -14,14 +14,14 @@ pub returns-then-operator-self : goal.returns-then-operator-self
 unfolding Applies
 returns-then-operator-self c = (λ p. let l = length-map c.args.self.now.operators.now (action c.args.self.now.entries.now) in let a = p.1.0 in omega arith, refl)
 
-pub all-hold-requires : goal.all-hold-requires
-all-hold-requires c =
+pub all_hold-requires : goal.all_hold-requires
+all_hold-requires c =
     let t = c.args.self.now in
     let o = get_or t.operators.now c.args.operator zero_operator in
     part-inside t.entries.now t.variables.now o.first (effects_at o) (length c.args.row.now) (omega arith) t.entries_fit
 
-pub all-admit-requires : goal.all-admit-requires
-all-admit-requires c =
+pub all_admit-requires : goal.all_admit-requires
+all_admit-requires c =
     let t = c.args.self.now in
     let o = get_or t.operators.now c.args.operator zero_operator in
     part-inside t.entries.now t.variables.now (effects_at o) (end_at o) (length c.args.row.now) (omega arith) t.entries_fit
@@ -32,19 +32,19 @@ update-requires c =
     let o = get_or t.operators.now c.args.operator zero_operator in
     part-inside t.entries.now t.variables.now (effects_at o) (end_at o) (length c.args.row.now) (omega arith) t.entries_fit
 
-pub returns-then-not-all-hold : goal.returns-then-not-all-hold
+pub returns-then-not-all_hold : goal.returns-then-not-all_hold
 unfolding Applies
-returns-then-not-all-hold c =
+returns-then-not-all_hold c =
     let t = c.args.self.now in
     let e = action-at t.entries.now t.operators.now c.args.operator (omega arith) in
-    (λ p. c.if-not-all-hold.ensures (rw e at p.1.1), refl)
+    (λ p. c.if-not-all_hold.ensures (rw e at p.1.1), refl)
 
-pub returns-then-not-all-admit : goal.returns-then-not-all-admit
+pub returns-then-not-all_admit : goal.returns-then-not-all_admit
 unfolding Applies
-returns-then-not-all-admit c =
+returns-then-not-all_admit c =
     let t = c.args.self.now in
     let e = action-at t.entries.now t.operators.now c.args.operator (omega arith) in
-    (λ p. c.if-not-all-admit.ensures (rw e at p.1.2), refl)
+    (λ p. c.if-not-all_admit.ensures (rw e at p.1.2), refl)
 
 pub returns : goal.returns
 unfolding Applies applied
@@ -53,4 +53,4 @@ returns c =
     let e = action-at t.entries.now t.operators.now c.args.operator (omega arith) in
     let l = length-map t.operators.now (action t.entries.now) in
     let n = length-map t.variables.now (λ v. v.domain) in
-    (omega arith, (omega arith, rw e c.if-not-all-hold.ensures, rw e c.if-not-all-admit.ensures), rw e c.update.ensures)
+    (omega arith, (omega arith, rw e c.if-not-all_hold.ensures, rw e c.if-not-all_admit.ensures), rw e c.update.ensures)

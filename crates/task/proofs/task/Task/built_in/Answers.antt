@@ -1,4 +1,4 @@
--- The built-in task keeps the rules: it has one variable, and nothing else.
+-- The built_in task keeps the rules: it has one variable, and nothing else.
 use Rattle.std.proofs.Common.{ℕ, zero, suc, [], ◌∷◌, refl, le_of_suc-le-suc, not-suc-le-zero, arith, lit<, lit≤}
 use Rattle.tables.specs.Records.{zero_span}
 use Rattle.tables.specs.Rules.{VariablesFit}
@@ -8,29 +8,17 @@ only-fits : VariablesFit 0 (record { name = zero_span; values = zero_span; domai
 only-fits zero l = ((lit≤ tt, lit≤ tt), (lit≤ tt, lit≤ tt), lit≤ tt, lit≤ tt)
 only-fits (suc k) l = absurd (not-suc-le-zero (le_of_suc-le-suc l))
 
-pub invariant-of-result : goal.invariant-of-result
-invariant-of-result c = (
-  lit≤ tt,
-  (
-    lit≤ tt,
-    (
-      lit≤ tt,
-      (
-        lit≤ tt,
-        (
-          only-fits,
-          (
-            λ k l. absurd (not-suc-le-zero l),
-            (
-              λ i j l m. absurd (not-suc-le-zero m),
-              (
-                λ k l. absurd (not-suc-le-zero l),
-                (λ k l. absurd (not-suc-le-zero l), (λ k l. absurd (not-suc-le-zero l), (∣ (λ k l. absurd (not-suc-le-zero l)) ∣₁, tt))),
-              ),
-            ),
-          ),
-        ),
-      ),
-    ),
-  ),
-)
+pub invariant_of-result : goal.invariant_of-result
+invariant_of-result c = record {
+  some = lit≤ tt;
+  few = lit≤ tt;
+  listed = lit≤ tt;
+  stored = lit≤ tt;
+  variables_fit = only-fits;
+  goal_fits = λ k l. absurd (not-suc-le-zero l);
+  goal_distinct = λ i j l m. absurd (not-suc-le-zero m);
+  operators_fit = λ k l. absurd (not-suc-le-zero l);
+  entries_fit = λ k l. absurd (not-suc-le-zero l);
+  required_fit = λ k l. absurd (not-suc-le-zero l);
+  operators_distinct = ∣ (λ k l. absurd (not-suc-le-zero l)) ∣₁;
+}

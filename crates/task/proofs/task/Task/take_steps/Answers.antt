@@ -31,7 +31,7 @@ loop-steps-preserved c =
     let k : cost T (take (n + 1) ops) ≡ cost T (take n ops) + get_or (prices T) o 0 = rw t (cost-more (prices T) (take n ops) o) in
     let s : min (c.loop-steps.cost + c.price.result) 4294967295 ≡ min (cost T (take n ops) + get_or (prices T) o 0) 4294967295 = rw (i.1, c.price.ensures.is) (cut_sum (cost T (take n ops)) (get_or (prices T) o 0) 4294967295) in (
       rw (t, m.2) l,
-      c.saturating-add-cost.ensures ∙ (s ∙ rw k),
+      c.saturating_add-cost.ensures ∙ (s ∙ rw k),
       λ h. c.if-not-apply.ensures.state (i.2 h),
       λ none. absurd (none (rw (no_steps T c.args.row.now c.loop-steps.row ops n (i.3 none) i.0) m.0)),
     )

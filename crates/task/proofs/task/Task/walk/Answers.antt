@@ -5,7 +5,7 @@ use Rattle.task.proofs.task.Task.walk.Goals as goal
 
 pub returns : goal.returns
 returns c = record {
-  walked = record { took = c.take-steps-steps.ensures; goal = c.is-goal-state.ensures };
+  walked = record { took = c.take_steps-steps.ensures; goal = c.is_goal_state.ensures };
   costs = costs-join;
   leads = leads-join (model c.args.self.now);
 }
