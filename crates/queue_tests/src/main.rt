@@ -106,8 +106,8 @@ fn agreeing(operations: u32) -> u32
 
 // A caller that is generic in the entries.
 fn put_all<T: QueueEntry>(queue: &mut Queue<T>, entries: &[T])
-    requires { Sound item_of no_later queue.old }
-    ensures sound { Sound item_of no_later queue.new }
+    requires { Sound T.item_of T.no_later queue.old }
+    ensures sound { Sound T.item_of T.no_later queue.new }
     ensures rows { Rows queue.old queue.new }
 {
     for entry in entries {

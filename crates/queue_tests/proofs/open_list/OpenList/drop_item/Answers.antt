@@ -6,4 +6,4 @@ pub drop_item-requires : goal.drop_item-requires
 drop_item-requires c = sound-out c.args.self.now.sound
 
 pub invariant_of-self : goal.invariant_of-self
-invariant_of-self c = (∣ c.drop_item.ensures.sound ∣₁, tt)
+invariant_of-self c = record { sound = ∣ c.drop_item.ensures.sound ∣₁ }

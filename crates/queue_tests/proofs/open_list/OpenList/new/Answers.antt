@@ -2,4 +2,4 @@
 use Rattle.queue_tests.proofs.open_list.OpenList.new.Goals as goal
 
 pub invariant_of-result : goal.invariant_of-result
-invariant_of-result c = (∣ c.new-queue.ensures.sound ∣₁, tt)
+invariant_of-result c = record { sound = ∣ c.new-queue.ensures.sound ∣₁ }

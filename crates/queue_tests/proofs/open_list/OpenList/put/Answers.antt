@@ -6,4 +6,4 @@ pub put-requires : goal.put-requires
 put-requires c = sound-out c.args.self.now.sound
 
 pub invariant_of-self : goal.invariant_of-self
-invariant_of-self c = (∣ c.put.ensures.sound ∣₁, tt)
+invariant_of-self c = record { sound = ∣ c.put.ensures.sound ∣₁ }

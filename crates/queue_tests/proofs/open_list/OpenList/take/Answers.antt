@@ -6,4 +6,4 @@ pub take-requires : goal.take-requires
 take-requires c = sound-out c.args.self.now.sound
 
 pub invariant_of-self : goal.invariant_of-self
-invariant_of-self c = (∣ c.take.ensures.sound ∣₁, tt)
+invariant_of-self c = record { sound = ∣ c.take.ensures.sound ∣₁ }
