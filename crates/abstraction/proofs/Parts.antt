@@ -1,12 +1,12 @@
 -- Where no variable is named twice, the first fact or effect on a variable is all that is said of it.
-use Rattle.std.proofs.Common.{◌≡◌, ℕ, zero, suc, ◌+◌, ◌<◌, ◌≤◌, Bool, true, false, cond, eqb, ◌⊎◌, List, [], ◌∷◌, length, get_or, Some, None, Option, sym, refl, ap, ◌∙◌, subst, inl, inr, ⊎_elim, arith}
+use Rattle.std.proofs.Common.{◌≡◌, ℕ, zero, suc, ◌<◌, cond, eqb, ◌⊎◌, List, [], ◌∷◌, length, get_or, Some, None, Option, sym, refl, ap, ◌∙◌, subst, inl, inr, ⊎_elim, arith}
 use Rattle.std.proofs.lemmas.Bool.{cases_eq, eq-eqb, ne_eqb, cond-true, cond-false}
 use Rattle.tables.specs.declared.records.Entry.{Entry}
 use Rattle.tables.specs.Records.{zero_entry}
 use Rattle.tables.specs.Rules.{Distinct}
 use Rattle.task.specs.Model.{Admits}
 use Rattle.abstraction.specs.declared.part.OperatorPart.{OperatorPart}
-use Rattle.abstraction.specs.Parts.{HoldsAt, AdmitsAt, value_after, value_on, effect_on, untouched, or_else}
+use Rattle.abstraction.specs.Parts.{HoldsAt, AdmitsAt, value_after, value_on, effect_on, or_else}
 
 -- no entry names the variable v
 abbrev pub Free : ℕ → List Entry → Type 0

@@ -1,5 +1,5 @@
 -- Facts, effects and steps of an abstract task, place by place.
-use Rattle.std.proofs.Common.{◌≡◌, ℕ, zero, suc, ◌+◌, ◌*◌, ◌<◌, ◌≤◌, cond, eqb, ◌⊎◌, List, [], ◌∷◌, length, get_or, drop, set, Some, None, Option, sym, refl, ap, ◌∙◌, subst, ap₂, inl, inr, ⊎_elim, arith, length-set, get_or-set_other, get_or-set_same}
+use Rattle.std.proofs.Common.{◌≡◌, ℕ, ◌+◌, ◌*◌, ◌<◌, ◌≤◌, cond, eqb, List, [], ◌∷◌, length, get_or, drop, set, Some, None, Option, sym, refl, ap, ◌∙◌, subst, ap₂, ⊎_elim, arith, length-set, get_or-set_other, get_or-set_same}
 use lib.ListN.{length-map}
 use Rattle.std.proofs.lemmas.List.{get_or-map}
 use Rattle.std.proofs.lemmas.Bool.{cases_eq, eq-eqb, ne_eqb, cond-true, cond-false}
@@ -7,10 +7,10 @@ use Rattle.tables.specs.declared.records.Entry.{Entry}
 use Rattle.task.specs.Model.{Model, IsState, AllHold, Admits, AllAdmit, updated, operator, IsGoal, Applies, applied, model, action}
 use Rattle.tables.proofs.Lists.{domain-at}
 use Rattle.abstraction.specs.declared.abstract_task.AbstractTask.{AbstractTask}
-use Rattle.abstraction.specs.Projected.{kept_at, cut_down, cut_action, projected}
-use Rattle.abstraction.specs.Parts.{MayFollow, HoldsAt, AdmitsAt, value_after, or_else, untouched, PartOf}
+use Rattle.abstraction.specs.Projected.{kept_at, cut_down, cut_action}
+use Rattle.abstraction.specs.Parts.{MayFollow, HoldsAt, AdmitsAt, value_after, or_else, untouched}
 use Rattle.abstraction.specs.AbstractTasks.{abstract_of, Stands, MayLeadTo}
-use Rattle.abstraction.specs.Ranks.{product, rank}
+use Rattle.abstraction.specs.Ranks.{product}
 use Rattle.abstraction.specs.Lawful.Cutting.{place_found}
 use Rattle.abstraction.specs.Lawful.Projecting.{operator-cut}
 use Rattle.abstraction.proofs.Ranks.{state-fit, rank_lt, lead, lead-more, lead-le, Digit, digit_at}

@@ -1,16 +1,15 @@
 -- The operators and the goal of a task, cut down to one variable.
-use Rattle.std.proofs.Common.{◌≡◌, ℕ, zero, suc, ◌+◌, ◌-◌, ◌<◌, ◌≤◌, List, [], ◌∷◌, map, length, get_or, take, drop, Some, None, Option, sym, refl, ap, ◌∙◌, subst, arith, length-drop, length-take, get_or-drop, get_or-take}
+use Rattle.std.proofs.Common.{◌≡◌, ℕ, ◌+◌, ◌-◌, ◌<◌, ◌≤◌, List, length, get_or, drop, Some, None, Option, sym, ap, ◌∙◌, subst, arith, length-drop, length-take}
 use mathlib.Core.Logic.{∥∥₁_elim}
 use Rattle.tables.specs.declared.records.Entry.{Entry}
 use Rattle.tables.specs.declared.records.Operator.{Operator}
 use Rattle.task.specs.declared.task.Task.{Task}
-use Rattle.tables.specs.Records.{zero_entry, zero_operator, zero_variable, part, effects_at, end_at}
+use Rattle.tables.specs.Records.{zero_entry, zero_operator, part, effects_at, end_at}
 use Rattle.tables.specs.Rules.{Distinct, OperatorsDistinct}
-use Rattle.task.specs.Model.{Model, Action, Admits, model, operator, action, idle}
+use Rattle.task.specs.Model.{Admits, model, operator, action}
 use Rattle.tables.proofs.Lists.{domain-at, part_at}
 use Rattle.task.proofs.Actions.{action-at}
-use Rattle.abstraction.specs.declared.part.OperatorPart.{OperatorPart}
-use Rattle.abstraction.specs.Parts.{HoldsAt, AdmitsAt, value_on, effect_on, PartOf, GoalPart}
+use Rattle.abstraction.specs.Parts.{value_on, effect_on, PartOf}
 use Rattle.abstraction.proofs.Parts.{Free, free-holds, free-admits, free-after, value-needed, value-enough, value_fits, effect-needed, effect-enough, effect-after, effect-none, effect-some}
 
 absurd-none : {x : ℕ} → ◌≡◌ {A = Option ℕ} None (Some x) → ⊥

@@ -3,7 +3,7 @@ use Rattle.std.specs.Prelude.{◌≡◌, ℕ, ◌+◌, ◌*◌, ◌<◌, ◌≤�
 use Rattle.task.specs.Model.{Model, model, operator}
 use Rattle.abstraction.specs.declared.abstract_task.AbstractTask.{AbstractTask}
 use Rattle.abstraction.specs.Patterns.{IsPattern}
-use Rattle.abstraction.specs.Projected.{sizes, projected}
+use Rattle.abstraction.specs.Projected.{projected}
 use Rattle.abstraction.specs.Ranks.{product}
 use Rattle.abstraction.specs.Parts.{untouched, MayFollow, PartOf, GoalPart}
 

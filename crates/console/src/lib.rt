@@ -1,4 +1,6 @@
 // What the programs share: reading a text from standard input, and printing what is wrong with it.
+#![tactic(auto)]
+
 ghost use Rattle.std.specs.Prelude.{◌≤◌, length, IfOk, vec_len};
 
 use std::alloc::Global;

@@ -1,4 +1,6 @@
 // The least that a program needs to search a task in memory of its own: open, start, advance and write.
+#![tactic(auto)]
+
 use estimator::blind::Blind;
 use memory::node::Node;
 use queue::entries::SearchEntry;

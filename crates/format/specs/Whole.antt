@@ -1,5 +1,5 @@
 -- The reading of a whole task text: the records of its task, or its first fault.
-use Rattle.std.specs.Prelude.{◌≡◌, ℕ, ◌+◌, ◌-◌, min, cond, List, [], ◌∷◌, ◌++◌, length, replicate, None, Ok, Err, codes, Result, ◌==◌, nat_le}
+use Rattle.std.specs.Prelude.{◌≡◌, ℕ, ◌+◌, ◌-◌, min, cond, List, [], ◌++◌, length, replicate, None, Ok, Err, codes, Result, ◌==◌, nat_le}
 use Rattle.tables.specs.declared.cause.Cause.TheVariants as cause
 use Rattle.tables.specs.declared.fault.Fault.{Fault}
 use Rattle.tables.specs.declared.records.Variable.{Variable}

@@ -1,4 +1,6 @@
 // The reading of damaged texts: what each fault is, and where.
+#![tactic(auto)]
+
 ghost use Rattle.std.specs.Prelude.{◌≡◌, ◌+◌, ◌≤◌, length};
 ghost use Rattle.format_tests.specs.Cut.{due_line};
 

@@ -1,4 +1,6 @@
 // Layers over two estimators of any kind, layers too: the maximum and the partition of what they answer.
+#![tactic(auto)]
+
 mod below;
 pub mod maximum;
 pub mod partition;

@@ -1,4 +1,6 @@
 // Piles of layers, with a leaf that refuses on demand.
+#![tactic(auto)]
+
 pub mod leaf;
 pub mod pile;
 #[cfg(test)]

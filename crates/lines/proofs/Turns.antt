@@ -1,6 +1,6 @@
 -- A step done n times, by the turns of a loop.
-use Rattle.std.proofs.Common.{◌≡◌, ℕ, zero, suc, ◌+◌, ◌-◌, ◌<◌, ◌≤◌, sym, refl, ap, ◌∙◌, arith}
-use Rattle.lines.specs.Reading.{Place, Step, refused, read, and_then, turns}
+use Rattle.std.proofs.Common.{◌≡◌, ℕ, suc, ◌+◌, ◌-◌, ◌<◌, ◌≤◌, arith}
+use Rattle.lines.specs.Reading.{Place, Step, read, and_then, turns}
 
 module _ {B : Type 0} (step : B → Place → Step B) (b : B) (s : Place) (n i : ℕ) where
   pub turns_more : i < n → turns (n - i) step b s ≡ and_then (step b s) (λ b1 s1. turns (n - (i + 1)) step b1 s1)

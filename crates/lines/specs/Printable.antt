@@ -1,5 +1,5 @@
 -- Which bytes a line of a task text may hold.
-use Rattle.std.specs.Prelude.{ℕ, Bool, true, false, ◌&&◌, List, [], ◌∷◌, nat_le}
+use Rattle.std.specs.Prelude.{ℕ, Bool, true, ◌&&◌, List, [], ◌∷◌, nat_le}
 
 -- each byte is one of 32 to 126
 abbrev pub printable : List ℕ → Bool

@@ -1,5 +1,5 @@
 -- A reading from the top of a text: what is due is taken line by line, and the first fault stops it.
-use Rattle.std.specs.Prelude.{ℕ, zero, suc, ◌+◌, ◌-◌, Bool, true, false, List, [], ◌∷◌, length, Some, None, Option}
+use Rattle.std.specs.Prelude.{ℕ, zero, suc, ◌+◌, ◌-◌, Bool, true, false, List, length, Some, None, Option}
 use Rattle.std.specs.Str.{bytes_eq}
 use Rattle.tables.specs.declared.cause.Cause.{Cause}
 use Rattle.tables.specs.declared.cause.Cause.TheVariants as cause

@@ -1,11 +1,10 @@
 -- What a change of the memory does to its nodes.
-use Rattle.std.proofs.Common.{◌≡◌, ℕ, zero, suc, ◌+◌, ◌-◌, ◌*◌, ◌<◌, ◌≤◌, Bool, true, false, ltb, leb, ◌≢◌, ◌⊎◌, List, [], ◌∷◌, ◌++◌, length, get_or, take, drop, set, Some, None, Option, sym, refl, ap, ◌∙◌, subst, inl, inr, mul-le-mul_right, arith, length-set, get_or-set_other, get_or-set_same, MatchOption}
+use Rattle.std.proofs.Common.{◌≡◌, ℕ, ◌+◌, ◌*◌, ◌<◌, ◌≤◌, Bool, true, leb, ◌≢◌, ◌⊎◌, List, [], ◌∷◌, ◌++◌, length, get_or, take, drop, set, Some, None, Option, sym, refl, ap, ◌∙◌, subst, inl, inr, mul-le-mul_right, arith, length-set, get_or-set_other, get_or-set_same, MatchOption}
 use Rattle.std.proofs.lemmas.Map.{update_here, update_apart}
 use Rattle.std.proofs.lemmas.Bool.Decides.{nat_tests}
 use Rattle.plain.specs.Plain as plain
 use Rattle.plain.specs.Plain.{NoLater, NoLater.by_f, NoLater.by_estimate, NoLater.by_node}
 use Rattle.plain.proofs.Splits.{lt-or-le, same_or_not}
-use Rattle.queue.specs.declared.Queue.{Queue}
 use Rattle.queue.specs.Content.{content, Sound, Rows, Changed, First, Taken}
 use Rattle.queue.specs.Entries.{then_by, search_item, search_no_later}
 use Rattle.memory.specs.declared.node.Node.{Node}
@@ -13,7 +12,7 @@ use Rattle.queue.specs.declared.entries.SearchEntry.{SearchEntry}
 use Rattle.memory.specs.declared.memory.Memory.{Memory}
 use Rattle.memory.specs.Index.{Indexed, Vacant}
 use Rattle.memory.specs.Rows.{rows, zero_node, queued_of, state_at, record_at, node_in, nodes_of, EntryFor, QueueAgrees, RoomFor, Consistent, Untouched, queued_with, TakenFirst}
-use Rattle.memory.proofs.Tables.{rows-length, rows_at, rows-set, rows-add, rows_upto, slice_is, slice-same}
+use Rattle.memory.proofs.Tables.{rows-set, rows-add, rows_upto, slice_is, slice-same}
 use Rattle.memory.proofs.Words.{indexed-add}
 use Rattle.memory.proofs.Held.{count_of, node-is, state-is, g-is}
 

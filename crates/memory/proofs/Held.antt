@@ -1,5 +1,5 @@
 -- The nodes of a memory by place.
-use Rattle.std.proofs.Common.{◌≡◌, ℕ, zero, suc, ◌+◌, ◌-◌, ◌*◌, ◌<◌, ◌≤◌, ◌≢◌, ◌⊎◌, List, [], ◌∷◌, ◌++◌, length, get_or, set, sym, refl, ap, ◌∙◌, subst, inl, inr, arith}
+use Rattle.std.proofs.Common.{◌≡◌, ℕ, ◌<◌, List, length, sym, ap, ◌∙◌, arith}
 use Rattle.plain.specs.Plain as plain
 use Rattle.memory.specs.declared.memory.Memory.{Memory}
 use Rattle.memory.specs.Rows.{nodes_of, node_in, state_at, record_at, Consistent}

@@ -1,5 +1,5 @@
 -- That a memory is in order has one proof at most, so that its owner can keep it in a ghost field.
-use Rattle.std.proofs.Common.{◌≡◌, ℕ, List}
+use Rattle.std.proofs.Common.{ℕ, List}
 use mathlib.Core.Logic.{∥∥₁_prop}
 use std.HLevel.{Π_prop}
 use native.Mathlib.Bridge.{le_prop}

@@ -1,8 +1,7 @@
 -- The nodes of a memory that holds none, and the limits of a single node.
-use Rattle.std.proofs.Common.{◌≡◌, ℕ, zero, suc, ◌+◌, ◌-◌, ◌*◌, ◌<◌, ◌≤◌, Bool, true, false, List, [], ◌∷◌, ◌++◌, length, get_or, None, Option, sym, refl, ap, ◌∙◌, subst, arith}
+use Rattle.std.proofs.Common.{◌≡◌, ℕ, ◌*◌, ◌<◌, ◌≤◌, List, [], ◌∷◌, Option, sym, ap, subst, arith}
 use Rattle.task.specs.Model.{Model, prices, dearest}
 use Rattle.plain.specs.Plain as plain
-use Rattle.plain.specs.Counts.{Budget, queue_count}
 use Rattle.plain.proofs.Budget.{queue-le}
 use Rattle.memory.specs.declared.memory.Memory.{Memory}
 use Rattle.memory.specs.Rows.{rows, node_in, nodes_of}

@@ -1,11 +1,11 @@
 -- The paths back to node 0, whatever the estimator answers.
-use Rattle.std.proofs.Common.{◌≡◌, ℕ, zero, suc, ◌+◌, ◌-◌, ◌*◌, ◌<◌, ◌≤◌, ◌≢◌, ◌⊎◌, List, [], ◌∷◌, ◌++◌, length, get_or, set, Option, sym, refl, ap, ◌∙◌, subst, inl, inr, append_assoc, append-nil, not-suc-le-zero, arith, length-append, length-set}
+use Rattle.std.proofs.Common.{◌≡◌, ℕ, zero, suc, ◌+◌, ◌<◌, ◌≤◌, ◌≢◌, ◌⊎◌, List, [], ◌∷◌, ◌++◌, length, get_or, set, Option, sym, refl, ap, ◌∙◌, subst, inl, inr, append_assoc, append-nil, arith, length-append, length-set}
 use mathlib.Core.Logic.{∥∥₁_elim, ∥∥₁_map, ∥∥₁_prop}
-use Rattle.task.specs.Model.{Model, prices, Applies, applied}
+use Rattle.task.specs.Model.{Model, prices, applied}
 use Rattle.plain.specs.Plain as plain
 use Rattle.plain.specs.Plain.{Node, node, PathTo, PathTo.home, PathTo.step, Generates, Generates.inapplicable, Generates.not_better, Generates.reopens, Generates.adds, GeneratesAll}
 use Rattle.plain.proofs.Placed.{Placed, set-placed, add-placed}
-use Rattle.plain.proofs.Splits.{same_or_not, lt-or-le}
+use Rattle.plain.proofs.Splits.{same_or_not}
 use Rattle.plain.proofs.Whole.{path-one}
 use Rattle.plain.proofs.Paths.{path-same}
 use Rattle.queue.proofs.Pigeon.{pigeon}

@@ -1,5 +1,5 @@
 -- The nodes of the plain search that the lent memory stands for, and what every call on the memory asks and keeps.
-use Rattle.std.specs.Prelude.{◌≡◌, ℕ, zero, suc, ◌+◌, ◌*◌, ◌<◌, ◌≤◌, Bool, true, false, cond, List, [], ◌∷◌, ◌++◌, length, take, drop, Some, None, Option, slice_index, slice_index_or, slice_set}
+use Rattle.std.specs.Prelude.{◌≡◌, ℕ, zero, suc, ◌+◌, ◌*◌, ◌<◌, ◌≤◌, List, [], ◌∷◌, ◌++◌, length, take, drop, Some, None, Option, slice_index, slice_index_or, slice_set}
 use Rattle.plain.specs.Plain as plain
 use Rattle.queue.specs.Content.{content, Sound}
 use Rattle.queue.specs.Entries.{search_item, search_no_later}

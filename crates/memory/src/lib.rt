@@ -1,4 +1,6 @@
 // The search's lent memory: node records, state bytes, their index, and the open list.
+#![tactic(auto)]
+
 pub mod index;
 pub mod lines;
 pub mod memory;

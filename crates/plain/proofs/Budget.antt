@@ -1,8 +1,8 @@
 -- How many expansions can be left.
-use Rattle.std.proofs.Common.{◌≡◌, ℕ, zero, suc, ◌+◌, ◌-◌, ◌*◌, ◌<◌, ◌≤◌, max, ◌≢◌, ◌⊎◌, List, [], ◌∷◌, ◌++◌, length, get_or, set, Some, None, Option, sym, refl, ap, ◌∙◌, subst, inl, inr, le_of_suc-le-suc, not-suc-le-zero, mul-le-mul_right, arith, length-append, length-set}
+use Rattle.std.proofs.Common.{◌≡◌, ℕ, zero, suc, ◌+◌, ◌-◌, ◌*◌, ◌<◌, ◌≤◌, List, [], ◌∷◌, ◌++◌, length, get_or, set, Some, None, Option, ap, le_of_suc-le-suc, not-suc-le-zero, mul-le-mul_right, arith, length-append, length-set}
 use Rattle.task.specs.Model.{Cost, dearest}
 use Rattle.plain.specs.Counts.{queue_count, expansions_left, all_left, Budget}
-use Rattle.plain.specs.Plain.{Node, node, no_node}
+use Rattle.plain.specs.Plain.{Node, node}
 
 pub queue-le : (o : Option ℕ) → queue_count o ≤ 1
 queue-le None = omega arith

@@ -1,16 +1,15 @@
 -- The invariant over single and repeated expansions.
-use Rattle.std.proofs.Common.{◌≡◌, ℕ, zero, suc, ◌+◌, ◌-◌, ◌*◌, ◌<◌, ◌≤◌, max, ◌≢◌, ◌⊎◌, List, [], ◌∷◌, ◌++◌, map, length, get_or, set, Some, None, Option, sym, refl, ap, ◌∙◌, subst, inl, inr, not-suc-le-zero, arith}
-use lib.ListN.{length-map, get_or-map}
-use Rattle.task.specs.Model.{Model, prices, IsState, IsGoal, Applies, applied, Plan, Leads, Reachable, Cost, dearest, WellFormed}
-use Rattle.plain.specs.Plain.{Kind, Lawful, Node, node, no_node, new_node, dequeued, Queued, Least, PathTo, GeneratesAll, Plain, Status, running, Expands, Expansions, Overflows, Finds, after_expansion}
+use Rattle.std.proofs.Common.{◌≡◌, ℕ, zero, suc, ◌+◌, ◌-◌, ◌*◌, ◌<◌, ◌≤◌, max, ◌≢◌, ◌⊎◌, List, length, set, sym, refl, ap, ◌∙◌, subst, inl, inr, arith}
+use Rattle.task.specs.Model.{Model, prices, IsGoal, Plan, Cost, dearest, WellFormed}
+use Rattle.plain.specs.Plain.{Kind, Lawful, Node, node, dequeued, Queued, Least, PathTo, Plain, running, Expands, Expansions, Overflows, Finds}
 use Rattle.plain.specs.Runs.{MemoryFull}
 use Rattle.plain.proofs.Placed.{Placed, set-placed}
-use Rattle.plain.proofs.Paths.{ComesFrom, path-leads, path-costs, path-same, leads-plan}
+use Rattle.plain.proofs.Paths.{path-leads, path-costs, path-same, leads-plan}
 use Rattle.plain.proofs.Keeps.{Invariant}
 use Rattle.plain.specs.Counts.{Budget}
 use Rattle.plain.proofs.Budget.{budget-take, budget-total}
 use Rattle.plain.proofs.Splits.{same_or_not}
-use Rattle.plain.proofs.Steps.{AllClosed, stilled, OnPlan, front, least-below, take-inv, Ready, Now, generates-now}
+use Rattle.plain.proofs.Steps.{AllClosed, stilled, front, least-below, take-inv, Ready, Now, generates-now}
 
 -- an optimal plan on the path to node x
 pub record CheapestFound (t : Model) (ns : List Node) (x : ℕ) : Type 0 where

@@ -1,10 +1,10 @@
 -- What holds of the nodes at all times, and that a node may be placed.
-use Rattle.std.proofs.Common.{◌≡◌, ℕ, zero, suc, ◌+◌, ◌-◌, ◌*◌, ◌<◌, ◌≤◌, max, ◌≢◌, ◌⊎◌, List, [], ◌∷◌, ◌++◌, length, get_or, Some, None, Option, sym, refl, ap, ◌∙◌, subst, inl, inr, arith}
-use Rattle.task.specs.Model.{Model, prices, IsState, IsGoal, Applies, applied, Plan, Leads, Cost, dearest, WellFormed}
-use Rattle.plain.specs.Plain.{Node, node, no_node, new_node, Queued, PathTo, PathTo.home, PathTo.step}
+use Rattle.std.proofs.Common.{◌≡◌, ℕ, suc, ◌+◌, ◌*◌, ◌<◌, ◌≤◌, ◌≢◌, ◌⊎◌, List, length, get_or, Some, None, Option, sym, ap, ◌∙◌, inl, inr, arith}
+use Rattle.task.specs.Model.{Model, prices, IsState, IsGoal, Applies, applied, Plan, Cost, dearest, WellFormed}
+use Rattle.plain.specs.Plain.{Node, node, new_node, PathTo}
 use Rattle.plain.proofs.Placed.{Placed}
 use Rattle.plain.proofs.Paths.{ComesFrom, path-new, path-again}
-use Rattle.plain.proofs.Splits.{same_or_not, lt-or-le}
+use Rattle.plain.proofs.Splits.{same_or_not}
 
 -- an estimate that is all_left: no plan costs less, and where there is none, there is no plan
 abbrev pub AdmissibleAt : Model → List ℕ → Option ℕ → Type 0

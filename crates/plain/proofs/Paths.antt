@@ -1,7 +1,7 @@
 -- The paths back from the nodes to node 0.
-use Rattle.std.proofs.Common.{◌≡◌, ℕ, zero, suc, ◌+◌, ◌-◌, ◌*◌, ◌<◌, ◌≤◌, max, ◌≢◌, ◌⊎◌, List, [], ◌∷◌, ◌++◌, length, get_or, sym, refl, ap, ◌∙◌, subst, inl, inr, arith}
-use Rattle.task.specs.Model.{Model, prices, IsState, IsGoal, Applies, applied, Plan, Leads, Cost}
-use Rattle.plain.specs.Plain.{Node, node, no_node, PathTo, PathTo.home, PathTo.step}
+use Rattle.std.proofs.Common.{◌≡◌, ℕ, ◌+◌, ◌<◌, ◌≤◌, ◌≢◌, ◌⊎◌, List, [], ◌∷◌, ◌++◌, length, get_or, sym, refl, subst, inl, inr, arith}
+use Rattle.task.specs.Model.{Model, prices, IsGoal, Applies, applied, Plan, Leads, Cost}
+use Rattle.plain.specs.Plain.{Node, node, PathTo, PathTo.home, PathTo.step}
 use Rattle.plain.proofs.Placed.{Placed}
 use Rattle.plain.proofs.Splits.{same_or_not}
 

@@ -1,13 +1,13 @@
 -- The invariant over the steps of the search.
-use Rattle.std.proofs.Common.{◌≡◌, ℕ, zero, suc, ◌+◌, ◌-◌, ◌*◌, ◌<◌, ◌≤◌, max, ◌≢◌, ◌⊎◌, List, [], ◌∷◌, ◌++◌, length, get_or, set, Some, None, Option, sym, refl, ap, ◌∙◌, subst, inl, inr, not-suc-le-zero, mul-le-mul_right, arith, length-set}
-use Rattle.task.specs.Model.{Model, prices, IsState, IsGoal, Applies, applied, Plan, Leads, Cost, dearest, WellFormed}
-use Rattle.plain.specs.Plain.{Kind, Lawful, Node, node, no_node, new_node, dequeued, Queued, Least, NoLater, NoLater.by_f, NoLater.by_estimate, NoLater.by_node, PathTo, Generates, Generates.inapplicable, Generates.not_better, Generates.reopens, Generates.adds, GeneratesAll}
+use Rattle.std.proofs.Common.{◌≡◌, ℕ, zero, suc, ◌+◌, ◌*◌, ◌<◌, ◌≤◌, ◌≢◌, ◌⊎◌, List, [], ◌∷◌, ◌++◌, length, get_or, set, Some, None, Option, sym, refl, ap, ◌∙◌, subst, inl, inr, not-suc-le-zero, mul-le-mul_right, arith, length-set}
+use Rattle.task.specs.Model.{Model, prices, IsState, IsGoal, Applies, applied, Plan, Cost, dearest, WellFormed}
+use Rattle.plain.specs.Plain.{Kind, Lawful, Node, node, new_node, dequeued, Queued, Least, NoLater, NoLater.by_f, NoLater.by_estimate, NoLater.by_node, Generates, Generates.inapplicable, Generates.not_better, Generates.reopens, Generates.adds, GeneratesAll}
 use Rattle.plain.proofs.Placed.{Placed, set-placed, add-placed}
-use Rattle.plain.proofs.Paths.{ComesFrom, path-leads, path-costs, path-same}
+use Rattle.plain.proofs.Paths.{path-same}
 use Rattle.plain.proofs.Keeps.{AdmissibleAt, Relaxed, Closed, Invariant, Placing, further, placed-further, came-by}
 use Rattle.plain.specs.Counts.{Budget}
-use Rattle.plain.proofs.Budget.{budget-set, budget-add, budget-take, dearest-le, cost-le}
-use Rattle.plain.proofs.Splits.{same_or_not, lt-or-le}
+use Rattle.plain.proofs.Budget.{budget-set, budget-add, dearest-le, cost-le}
+use Rattle.plain.proofs.Splits.{same_or_not}
 
 -- nothing is left to try of any node
 abbrev pub AllClosed : Model → List Node → Type 0

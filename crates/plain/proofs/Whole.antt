@@ -1,13 +1,12 @@
 -- The law over whole runs.
-use Rattle.std.proofs.Common.{◌≡◌, ℕ, zero, suc, ◌+◌, ◌-◌, ◌*◌, ◌<◌, ◌≤◌, max, Bool, true, false, ◌≢◌, ◌⊎◌, List, [], ◌∷◌, ◌++◌, map, length, get_or, drop, set, Some, None, Option, sym, refl, ap, ◌∙◌, subst, inl, inr, not-suc-le-zero, arith}
+use Rattle.std.proofs.Common.{◌≡◌, ℕ, ◌+◌, ◌-◌, ◌*◌, ◌<◌, ◌≤◌, Bool, true, false, List, [], ◌∷◌, ◌++◌, length, drop, Option, sym, refl, ap, ◌∙◌, subst, inl, inr, arith}
 use Rattle.estimator.specs.Price.{Shares}
-use Rattle.task.specs.Model.{Model, prices, IsState, IsGoal, Applies, applied, Plan, Leads, Reachable, Cost, dearest, WellFormed}
+use Rattle.task.specs.Model.{Model, prices, Plan, Cost, dearest, WellFormed}
 use Rattle.plain.specs.declared.fault.Fault.TheVariants.{Set}
-use Rattle.plain.specs.Plain.{Kind, Lawful, Node, node, no_node, new_node, PathTo, PathTo.home, PathTo.step, Plain, opened, Status, running, fresh, none, full, found}
-use Rattle.plain.specs.Plain.{Find, Call, start, advance, read, write, Outcome, refused, started, more, found_plan, no_plan, out_of_room, bound_read, written, Answer, reports, Starts, Advances, Writes, Does}
-use Rattle.plain.specs.Runs.{Exchange, Run, Answered, last_bound, last_total, Reached, Optimal, WrittenInto, MemoryFull, AnswerLaw, EveryAnswer, Law, SearchLaw}
-use Rattle.plain.proofs.Keeps.{AdmissibleAt, Invariant, Closed}
-use Rattle.plain.specs.Counts.{Budget}
+use Rattle.plain.specs.Plain.{Kind, Lawful, Node, node, new_node, PathTo, PathTo.home, PathTo.step, Plain, opened, Status, running, fresh, none, full, found}
+use Rattle.plain.specs.Plain.{Find, Call, start, advance, read, write, Outcome, refused, started, more, found_plan, no_plan, out_of_room, bound_read, written, reports, Starts, Advances, Writes, Does}
+use Rattle.plain.specs.Runs.{Exchange, Run, Answered, last_bound, last_total, Reached, WrittenInto, MemoryFull, EveryAnswer, Law, SearchLaw}
+use Rattle.plain.proofs.Keeps.{AdmissibleAt, Invariant}
 use Rattle.plain.proofs.Budget.{queue-le}
 use Rattle.plain.proofs.Steps.{Ready, answer-fair, answer-ready}
 use Rattle.plain.proofs.Expansions.{CheapestFound, Live, expansions-live, empty-none, finds-won, Ended, live-total, finds-ended, overflows-filled}

@@ -1,8 +1,8 @@
 -- The plain search, the manual of the calls: what each of them may do, over any task and any estimator.
-use Rattle.std.specs.Prelude.{◌≡◌, ℕ, zero, suc, ◌+◌, ◌-◌, ◌*◌, ◌<◌, ◌≤◌, max, Bool, true, false, ◌≢◌, List, [], ◌∷◌, ◌++◌, length, drop, Some, None, Ok, Err, Option, slice_index, slice_index_or, slice_set}
+use Rattle.std.specs.Prelude.{◌≡◌, ℕ, zero, suc, ◌+◌, ◌<◌, ◌≤◌, max, Bool, true, false, ◌≢◌, List, [], ◌∷◌, ◌++◌, length, drop, Some, None, Ok, Err, Option, slice_index, slice_index_or, slice_set}
 use Rattle.tables.specs.declared.cause.Cause.{Cause}
 use Rattle.tables.specs.declared.cause.Cause.TheVariants as cause
-use Rattle.task.specs.Model.{Model, prices, IsState, IsGoal, Applies, applied, Plan, Cost, dearest}
+use Rattle.task.specs.Model.{Model, prices, IsGoal, Applies, applied}
 use Rattle.estimator.specs.Laws.{Laws, HoldsT, SetsT, AnswersT}
 use Rattle.estimator.specs.declared.fault.SetFault.{SetFault}
 use Rattle.plain.specs.declared.fault.Fault.{Fault}

@@ -1,5 +1,5 @@
 -- Runs of calls, and the law of the search: what holds of every run, in words of plans, costs and reachable states.
-use Rattle.std.specs.Prelude.{◌≡◌, ℕ, zero, suc, ◌+◌, ◌-◌, ◌*◌, ◌<◌, ◌≤◌, ◌≢◌, ◌⊎◌, List, [], ◌∷◌, ◌++◌, length, get_or, drop}
+use Rattle.std.specs.Prelude.{◌≡◌, ℕ, ◌+◌, ◌-◌, ◌*◌, ◌<◌, ◌≤◌, ◌≢◌, ◌⊎◌, List, [], ◌∷◌, ◌++◌, length, drop}
 use Rattle.task.specs.Model.{Model, prices, Applies, applied, Plan, Reachable, Cost, dearest, WellFormed}
 use Rattle.plain.specs.Plain.{Kind, Lawful, Plain, opened, Call, Call.advance, Call.write, Find, Node, node, Outcome, Outcome.more, Outcome.found_plan, Outcome.written, Outcome.no_plan, Outcome.out_of_room, Answer, Does}
 

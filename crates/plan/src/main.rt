@@ -1,5 +1,7 @@
 // Reads a task text from standard input, and prints a cheapest plan, that there is none, that 2,048 states do not
 // suffice, or what is wrong with the text.
+#![tactic(auto)]
+
 use console::{read_text, write_cause, write_fault};
 use planner::plan::{Answer, plan};
 use planner::solve::Solution;

@@ -1,20 +1,18 @@
 -- What the law of the search says of a run that starts, advances to the end and writes.
-use Rattle.std.proofs.Common.{◌≡◌, ℕ, zero, suc, ◌+◌, ◌-◌, ◌*◌, ◌<◌, ◌≤◌, Bool, true, false, ◌≢◌, ◌⊎◌, List, [], ◌∷◌, ◌++◌, length, get_or, drop, set, replicate, None, Ok, Err, Result, sym, refl, ap, ◌∙◌, subst, inl, inr, arith, get_or-set_same}
+use Rattle.std.proofs.Common.{◌≡◌, ℕ, zero, suc, ◌+◌, ◌-◌, ◌<◌, ◌≤◌, false, List, [], ◌∷◌, ◌++◌, length, drop, replicate, Ok, Err, Result, sym, refl, ap, ◌∙◌, subst, inl, inr, arith, get_or-set_same}
 use lib.ListN.{length-replicate}
 use Rattle.tables.specs.declared.cause.Cause.{Cause}
 use Rattle.tables.specs.declared.cause.Cause.TheVariants as cause
 use Rattle.task.specs.declared.task.Task.{Task}
-use Rattle.task.specs.Model.{Model, model, prices, Plan, Cost, cost, WellFormed}
-use Rattle.estimator.specs.declared.fault.SetFault.{SetFault}
+use Rattle.task.specs.Model.{Model, model, Plan, WellFormed}
 use Rattle.plain.specs.declared.fault.Fault.{Fault}
 use Rattle.plain.specs.declared.fault.Fault.TheVariants.{Own, Set}
 use Rattle.plain.specs.Plain as plain
 use Rattle.plain.specs.Plain.{Kind, Lawful, Plain, Node, Find, Answer, node, dequeued, opened, reports, refusal, Starts, Advances, Expansions, Expands, Finds, Writes, OwnFind, PathTo}
-use Rattle.plain.specs.Runs.{Run, Exchange, Answered, Reached, Law, Optimal, MemoryFull}
+use Rattle.plain.specs.Runs.{Run, Answered, Reached, Optimal, MemoryFull}
 use Rattle.plain.proofs.Whole.{search-law}
 use Rattle.search.specs.Plans.{Written}
-use Rattle.planner.specs.declared.solve.Solution.TheVariants as solution
-use Rattle.planner.specs.Solving.{Cheapest, TooShort, Ended, StartRefused, concluded}
+use Rattle.planner.specs.Solving.{Cheapest, Ended, StartRefused, concluded}
 
 module _ {E : Type 0} (est : Kind E) (t : Model) (N : ℕ) (text : List ℕ → ℕ → List ℕ) where
   -- expansions leave a running search running, and count themselves

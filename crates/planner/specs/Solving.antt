@@ -4,7 +4,6 @@ use Rattle.tables.specs.declared.cause.Cause.{Cause}
 use Rattle.tables.specs.declared.cause.Cause.TheVariants as cause
 use Rattle.task.specs.Model.{Model, prices, Plan, cost}
 use Rattle.estimator.specs.Laws.{SetsT}
-use Rattle.estimator.specs.declared.fault.SetFault.{SetFault}
 use Rattle.plain.specs.declared.fault.Fault.{Fault}
 use Rattle.plain.specs.declared.fault.Fault.TheVariants.{Own, Set}
 use Rattle.plain.specs.Plain.{Node}

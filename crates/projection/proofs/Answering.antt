@@ -1,15 +1,15 @@
 -- The rank that the weights give a state is the rank of its abstract state.
-use Rattle.std.proofs.Common.{◌≡◌, ℕ, zero, suc, ◌+◌, ◌*◌, ◌<◌, ◌≤◌, true, List, length, get_or, take, drop, Some, None, Option, sym, refl, ap, ◌∙◌, subst, ap₂, add-one, arith, get_or-take}
+use Rattle.std.proofs.Common.{◌≡◌, ℕ, zero, suc, ◌+◌, ◌*◌, ◌<◌, ◌≤◌, List, length, get_or, drop, sym, refl, ap, ◌∙◌, ap₂, add-one, arith, get_or-take}
 use lib.ListN.{length-map}
 use Rattle.task.specs.Model.{Model, IsState}
-use Rattle.abstraction.specs.Patterns.{IsPattern, abstraction}
+use Rattle.abstraction.specs.Patterns.{abstraction}
 use Rattle.abstraction.specs.Projected.{sizes, projected}
 use Rattle.abstraction.specs.Ranks.{product, rank}
 use Rattle.abstraction.specs.Lawful.Projecting.{abstraction-at, abstract-state}
 use Rattle.abstraction.proofs.Ranks.{lead, rank-lead, rank_lt, state-fit}
 use Rattle.projection.specs.declared.projection.Projection.{Projection}
 use Rattle.projection.specs.Distances.{distance, at}
-use Rattle.projection.specs.Projection.{ranks, distances, Serves, weighed, rank_in, Known, Inside}
+use Rattle.projection.specs.Projection.{ranks, distances, Serves, weighed, rank_in, Inside}
 
 weighed-lead : (ds pattern weights state : List ℕ) (n : ℕ) → n ≤ length pattern → ((i : ℕ) → i < length pattern → get_or weights i 0 ≡ product (drop (i + 1) ds))
     → weighed pattern weights state n ≡ lead ds (abstraction pattern state) n

@@ -1,10 +1,10 @@
 -- A table that no step can lower any more has the distances; and the definitions have one meaning.
-use Rattle.std.proofs.Common.{◌≡◌, ℕ, zero, suc, ◌+◌, ◌*◌, ◌<◌, ◌≤◌, Bool, true, false, cond, eqb, ltb, ◌≢◌, ◌⊎◌, List, [], ◌∷◌, length, get_or, Some, None, Option, sym, refl, ap, ◌∙◌, subst, inl, inr, ⊎_elim, zero-le, mul-le-mul_left, arith}
+use Rattle.std.proofs.Common.{◌≡◌, ℕ, zero, suc, ◌+◌, ◌*◌, ◌<◌, ◌≤◌, cond, eqb, ltb, List, [], ◌∷◌, length, get_or, Some, None, Option, sym, refl, ap, ◌∙◌, subst, ⊎_elim, mul-le-mul_left, arith}
 use Rattle.std.proofs.lemmas.Bool.{cases_eq, cases_lt, eq-eqb, ne_eqb, cond-true, cond-false, cond_both, lt-ltb, le-ltb}
-use Rattle.task.specs.Model.{Model, IsState, IsGoal, Applies, applied, Plan, Cost}
+use Rattle.task.specs.Model.{Model, IsState, Applies, applied, Plan, Cost}
 use Rattle.abstraction.specs.Ranks.{product, rank}
 use Rattle.abstraction.proofs.Ranks.{rank_lt, rank_same, state-fit}
-use Rattle.projection.specs.Distances.{IsDistance, distance, at, IsTable, StepBetween, IsHeld, OneMeaning}
+use Rattle.projection.specs.Distances.{IsDistance, IsTable, IsHeld, OneMeaning}
 use Rattle.projection.specs.Dijkstra.{entry, Witness, Settled}
 
 -- operators lead from states to states

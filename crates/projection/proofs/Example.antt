@@ -1,10 +1,9 @@
 -- The worked example's numbers, state by state and operator by operator.
-use Rattle.std.proofs.Common.{◌≡◌, ℕ, zero, suc, ◌+◌, ◌<◌, ◌≤◌, ◌⊎◌, List, [], ◌∷◌, length, get_or, Some, None, sym, refl, ap, ◌∙◌, subst, inl, inr, ⊎_elim, arith}
-use Rattle.task.specs.Model.{Model, prices, IsState, IsGoal, Applies, applied, Plan, Cost}
-use Rattle.estimator.specs.Price.{Shares}
-use Rattle.abstraction.specs.Ranks.{product, rank}
-use Rattle.projection.specs.Distances.{at, IsTable, StepBetween, IsHeld, HeldRow}
-use Rattle.projection.specs.Dijkstra.{entry, Witness, Settled}
+use Rattle.std.proofs.Common.{◌≡◌, ℕ, zero, suc, ◌+◌, ◌<◌, ◌≤◌, ◌⊎◌, List, [], ◌∷◌, length, get_or, sym, refl, ap, ◌∙◌, subst, inl, inr, arith}
+use Rattle.task.specs.Model.{Model, prices, IsState, IsGoal, Applies, applied}
+use Rattle.abstraction.specs.Ranks.{rank}
+use Rattle.projection.specs.Distances.{IsTable, StepBetween, IsHeld}
+use Rattle.projection.specs.Dijkstra.{entry, Witness}
 use Rattle.projection.specs.Example.{sofa, by_sofa, by_door, SofaNumbers}
 use Rattle.projection.proofs.Distances.{Closed, Low, settled-table}
 use Rattle.projection.proofs.Saturation.{missing}

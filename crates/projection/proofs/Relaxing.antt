@@ -1,5 +1,5 @@
 -- Lowerings one after another, and to more ranks.
-use Rattle.std.proofs.Common.{◌≡◌, ℕ, ◌+◌, ◌<◌, ◌≤◌, ◌⊎◌, List, length, get_or, refl, ◌∙◌, inl, inr, ⊎_elim, arith}
+use Rattle.std.proofs.Common.{ℕ, List, refl, ◌∙◌, inl, inr, ⊎_elim, arith}
 use Rattle.queue.specs.declared.Queue.{Queue}
 use Rattle.queue.specs.declared.entries.RankEntry.{RankEntry}
 use Rattle.projection.specs.Dijkstra.{Relaxed}

@@ -1,9 +1,9 @@
 -- What is kept from one operator to the next, from one rank to the next, and at the end.
-use Rattle.std.proofs.Common.{◌≡◌, ℕ, ◌+◌, ◌-◌, ◌<◌, ◌≤◌, min, ◌⊎◌, List, [], ◌∷◌, length, get_or, take, Some, None, Option, sym, refl, ap, ◌∙◌, subst, inl, inr, ⊎_elim, arith}
+use Rattle.std.proofs.Common.{◌≡◌, ℕ, ◌+◌, ◌-◌, ◌<◌, ◌≤◌, min, ◌⊎◌, List, [], ◌∷◌, length, get_or, take, None, sym, ap, ◌∙◌, subst, inl, inr, ⊎_elim, arith}
 use Rattle.std.proofs.lemmas.Bool.{cases_eq, cases_lt}
 use Rattle.std.proofs.lemmas.List.{get_or_past}
 use Rattle.std.proofs.lemmas.Map.{update_here, update_apart}
-use Rattle.task.specs.Model.{Model, IsState, IsGoal, Applies, applied, Plan, Cost}
+use Rattle.task.specs.Model.{Model, IsState, IsGoal, Applies, applied, Plan}
 use Rattle.queue.specs.declared.Queue.{Queue}
 use Rattle.queue.specs.declared.entries.RankEntry.{RankEntry}
 use Rattle.queue.specs.Content.{content, Sound, Rows, Changed}

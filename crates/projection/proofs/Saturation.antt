@@ -1,11 +1,11 @@
 -- Held prices from rank to rank, and at the end.
-use Rattle.std.proofs.Common.{◌≡◌, ℕ, ◌+◌, ◌-◌, ◌<◌, ◌≤◌, max, cond, eqb, ◌⊎◌, List, length, get_or, Some, None, Option, sym, refl, ap, ◌∙◌, subst, inl, inr, ⊎_elim, arith}
+use Rattle.std.proofs.Common.{◌≡◌, ℕ, ◌+◌, ◌-◌, ◌<◌, ◌≤◌, max, eqb, ◌⊎◌, List, get_or, Some, None, Option, sym, ap, ◌∙◌, subst, inl, inr, ⊎_elim, arith}
 use Rattle.std.proofs.lemmas.Bool.{cases_eq, cases_lt, eq-eqb, ne_eqb, cond-true, cond-false}
 use Rattle.task.specs.Model.{Model, IsState, Applies, applied}
 use Rattle.abstraction.specs.Ranks.{product, rank}
 use Rattle.abstraction.specs.Steps.{StateOf}
 use Rattle.abstraction.proofs.Ranks.{rank_lt, state-fit}
-use Rattle.projection.specs.Distances.{distance, at, StepBetween, IsHeld}
+use Rattle.projection.specs.Distances.{distance, StepBetween, IsHeld}
 use Rattle.projection.specs.Dijkstra.{entry, Settled}
 use Rattle.projection.specs.Saturating.{raised, HeldBelow}
 use Rattle.projection.proofs.Running.{one_state}

@@ -1,10 +1,9 @@
 -- Abstract steps place by place, as they are walked backwards.
-use Rattle.std.proofs.Common.{◌≡◌, ℕ, zero, suc, ◌+◌, ◌*◌, ◌<◌, ◌≤◌, List, [], ◌∷◌, length, get_or, drop, sym, refl, ap, ◌∙◌, subst, ap₂, mul-le-mul_right, suc-mul, zero-add, add-one, arith, drop-cons, ext_get_or}
+use Rattle.std.proofs.Common.{◌≡◌, ℕ, zero, suc, ◌+◌, ◌*◌, ◌<◌, ◌≤◌, List, [], ◌∷◌, length, get_or, drop, sym, refl, ap, ◌∙◌, subst, mul-le-mul_right, suc-mul, add-one, arith, drop-cons, ext_get_or}
 use Rattle.std.proofs.lemmas.List.{drop_all}
 use Rattle.task.specs.Model.{Model, IsState, Applies, applied}
 use Rattle.abstraction.specs.declared.abstract_task.AbstractTask.{AbstractTask}
 use Rattle.abstraction.specs.Ranks.{product, rank}
-use Rattle.abstraction.specs.Parts.{or_else, untouched}
 use Rattle.abstraction.specs.AbstractTasks.{abstract_of, Stands}
 use Rattle.abstraction.proofs.Places.{places, applied-at, applied-state, applies-each, applies-at, applies-number}
 use Rattle.projection.specs.Dijkstra.{StepAt, StepsFrom, Preceding}

@@ -1,5 +1,5 @@
 -- What holds of the table and the queue while the distances are computed, backwards from the goal states.
-use Rattle.std.specs.Prelude.{◌≡◌, ℕ, suc, ◌+◌, ◌*◌, ◌<◌, ◌≤◌, ◌⊎◌, List, [], ◌∷◌, length, drop, Some, None, sum, Option, ◌≢◌, slice_index, slice_index_or}
+use Rattle.std.specs.Prelude.{◌≡◌, ℕ, suc, ◌+◌, ◌*◌, ◌<◌, ◌≤◌, ◌⊎◌, List, [], ◌∷◌, length, drop, Some, None, sum, ◌≢◌, slice_index, slice_index_or}
 use Rattle.task.specs.Model.{Model, IsState, IsGoal, Admits, Applies, applied, Plan, Cost}
 use Rattle.queue.specs.declared.Queue.{Queue}
 use Rattle.queue.specs.declared.entries.RankEntry.{RankEntry}

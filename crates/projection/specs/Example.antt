@@ -1,5 +1,5 @@
 -- The worked example: the numbers that the definitions give for a sofa to carry through a door into the loft.
-use Rattle.std.specs.Prelude.{◌≡◌, ℕ, List, [], ◌∷◌, Some, None}
+use Rattle.std.specs.Prelude.{◌≡◌, ℕ, [], ◌∷◌, Some, None}
 use Rattle.tables.specs.declared.records.Entry.{Entry}
 use Rattle.task.specs.Model.{Model, prices}
 use Rattle.estimator.specs.Price.{Shares}

@@ -1,5 +1,5 @@
 -- The projection, kind 2: what its calls do.
-use Rattle.std.specs.Prelude.{◌≡◌, ℕ, zero, suc, ◌+◌, ◌*◌, ◌<◌, ◌≤◌, true, false, List, length, take, drop, Some, None, Ok, Err, Option, Result, slice_index}
+use Rattle.std.specs.Prelude.{◌≡◌, ℕ, zero, suc, ◌+◌, ◌*◌, ◌<◌, ◌≤◌, true, false, List, length, take, drop, Some, Ok, Err, Option, Result, slice_index}
 use Rattle.tables.specs.declared.cause.Cause.TheVariants.{Row, Pattern, Table}
 use Rattle.task.specs.Model.{Model, IsState, WellFormed}
 use Rattle.estimator.specs.Price.{Offer}

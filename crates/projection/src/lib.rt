@@ -1,4 +1,6 @@
 // The projection estimator: exact distances in an abstraction, and the least prices that keep them.
+#![tactic(auto)]
+
 mod compute;
 mod dijkstra;
 mod lower;

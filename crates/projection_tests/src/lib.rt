@@ -1,3 +1,5 @@
+#![tactic(auto)]
+
 // Tests of the projection on the worked example, on small tasks of one feature each, and at the limits.
 #[cfg(test)]
 mod example;

@@ -1,5 +1,5 @@
 -- The turn of a loop that sifts: the entry f moves from p into the hole at i, and p becomes the hole that is for e.
-use Rattle.std.proofs.Common.{◌≡◌, ℕ, ◌<◌, ◌≤◌, Bool, List, length, get_or, take, set, sym, refl, ap, ◌∙◌, subst, arith}
+use Rattle.std.proofs.Common.{◌≡◌, ℕ, ◌<◌, List, length, get_or, take, set, sym, refl, ap, ◌∙◌, subst, arith}
 use Rattle.std.proofs.lemmas.List.{length-set, get_or-set_same, get_or-set_other}
 use Rattle.queue.specs.Heap.{Room, Indexed}
 use Rattle.queue.specs.Content.{held}

@@ -1,9 +1,8 @@
 -- Two entries that change places, with their places written so, are the same content.
-use Rattle.std.proofs.Common.{◌≡◌, ℕ, ◌^◌, ◌<◌, ◌≤◌, List, length, get_or, take, sym, refl, ap, ◌∙◌, subst, ⊎_elim, arith}
+use Rattle.std.proofs.Common.{◌≡◌, ℕ, ◌^◌, ◌<◌, List, length, get_or, take, sym, ap, ◌∙◌, subst, ⊎_elim, arith}
 use Rattle.std.proofs.lemmas.Bool.{cases_eq}
 use Rattle.queue.specs.Heap.{Room, Indexed}
 use Rattle.queue.specs.Content.{held}
-use Rattle.queue.specs.Sifting.{At}
 use Rattle.queue.proofs.Order.{Exchanged, there}
 use Rattle.queue.proofs.Held.{held_same, one_place}
 

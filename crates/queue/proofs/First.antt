@@ -1,5 +1,5 @@
 -- The top of the heap is a first entry of the queue.
-use Rattle.std.proofs.Common.{◌≡◌, ℕ, ◌+◌, ◌<◌, Bool, true, List, get_or, Some, None, Option, sym, refl, ap, ◌∙◌, ⊎_elim, arith}
+use Rattle.std.proofs.Common.{◌≡◌, ℕ, ◌+◌, ◌<◌, Bool, get_or, Some, None, Option, refl, ⊎_elim, arith}
 use Rattle.queue.specs.declared.Queue.{Queue}
 use Rattle.queue.specs.Content.{content, Sound, First}
 use Rattle.queue.proofs.Held.{held_none, held-some, either}

@@ -1,5 +1,5 @@
 -- That a queue is sound has one proof at most, so that an owner can keep it in a ghost field, as `∥ Sound item_of no_later queue ∥₁`.
-use Rattle.std.proofs.Common.{◌≡◌, ℕ, Bool, List}
+use Rattle.std.proofs.Common.{ℕ, Bool, List}
 use mathlib.Core.Logic.{∥∥₁_elim}
 use std.HLevel.{Π_prop}
 use native.Mathlib.Bridge.{le_prop}

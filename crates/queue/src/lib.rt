@@ -1,4 +1,6 @@
 // A priority queue of at most one entry an item: an indexed binary heap over lent entries and places.
+#![tactic(auto)]
+
 pub mod entries;
 
 ghost use Rattle.std.specs.Prelude.{◌≡◌, ℕ, ◌+◌, ◌*◌, ◌<◌, ◌≤◌, Bool, true, false, length, Some, None, slice_index_or, slice_set};

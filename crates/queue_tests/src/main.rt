@@ -1,4 +1,6 @@
 // Ten thousand mixed operations on a queue, each held against a plain list, and a generic caller.
+#![tactic(auto)]
+
 ghost use Rattle.std.specs.Prelude.{◌≡◌, ℕ, ◌<◌, ◌≤◌};
 ghost use Rattle.queue.specs.Content.{Sound, Rows};
 ghost use Rattle.queue_tests.specs.Lists.{Agree};

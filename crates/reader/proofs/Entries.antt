@@ -1,6 +1,5 @@
 -- Groups of entries: what was read if a group was accepted, and that every valid group is.
-use Rattle.std.proofs.Common.{◌≡◌, ℕ, zero, suc, ◌+◌, ◌^◌, ◌<◌, ◌≤◌, Bool, true, false, cond, not, ltb, List, [], ◌∷◌, ◌++◌, map, length, get_or, drop, Some, None, codes, decimal, Option, sym, refl, ap, ◌∙◌, arith}
-use Rattle.std.proofs.lemmas.Bool.Decides.{nat_tests}
+use Rattle.std.proofs.Common.{◌≡◌, ℕ, zero, suc, ◌+◌, ◌<◌, ◌≤◌, Bool, true, false, cond, not, ltb, List, [], ◌∷◌, ◌++◌, map, length, get_or, drop, Some, None, codes, decimal, Option, sym, refl, ap, ◌∙◌, arith}
 use Rattle.std.proofs.lemmas.Bool.{ltb-true, lt-ltb}
 use Rattle.std.proofs.lemmas.List.{append_assoc, append-nil, length-append, drop-append-le}
 use Rattle.std.proofs.lemmas.Fmt.{decimal_digit}
@@ -13,8 +12,8 @@ use Rattle.tables.specs.Rules.{Distinct}
 use Rattle.lines.specs.declared.number.Number.{Number}
 use Rattle.lines.specs.declared.number.Number.TheVariants.{MinusOne, Value, TooLong}
 use Rattle.lines.specs.Printable.{printable}
-use Rattle.lines.specs.Numbers.{number_of, below_of, and_of, two_of, four_of}
-use Rattle.lines.specs.Reading.{Place, Step, read, and_then, tested, given, line_of, turns}
+use Rattle.lines.specs.Numbers.{number_of, below_of, two_of}
+use Rattle.lines.specs.Reading.{Place, read, tested, given, line_of, turns}
 use Rattle.sections.specs.declared.entries.Shape.{Shape}
 use Rattle.sections.specs.declared.entries.Shape.TheVariants.{Fact, Effect}
 use Rattle.sections.specs.Entries.{numbers_of, required_of, entry_in, names, entry_of, entry_more}

@@ -1,5 +1,5 @@
 -- What reading and making give together: exactly the texts of valid tasks are loaded, and each as its own task.
-use Rattle.std.proofs.Common.{◌≡◌, ℕ, ◌+◌, ◌-◌, ◌<◌, ◌≤◌, min, Bool, true, false, cond, leb, List, [], ◌∷◌, ◌++◌, length, get_or, take, replicate, None, Ok, Err, Result, sym, refl, ap, ◌∙◌, arith}
+use Rattle.std.proofs.Common.{◌≡◌, ℕ, ◌+◌, ◌-◌, ◌≤◌, Bool, true, false, cond, leb, List, length, get_or, take, replicate, None, Ok, Err, Result, sym, refl, ap, ◌∙◌, arith}
 use Rattle.std.proofs.lemmas.List.{length-append, take_at, take-append-le}
 use Rattle.std.proofs.lemmas.Bool.{leb-true, le-leb}
 use Rattle.std.specs.List.{flat_map}
@@ -16,10 +16,10 @@ use Rattle.tables.specs.Lines.{nth_line}
 use Rattle.task.specs.Making.{Accepts, MadeOf, Put}
 use Rattle.lines.specs.Reading.{Place, Step, read, refused, top}
 use Rattle.format.specs.Whole.{Held, Room, whole_of, room_of, outcome, task_of, counts_of, filled, TaskRead}
-use Rattle.reader.specs.Named.{NamedVariable, NamedOperator, NamedTask, Valid, all_entries, entries_of}
+use Rattle.reader.specs.Named.{NamedTask, Valid, entries_of}
 use Rattle.reader.specs.Rendering.{render}
 use Rattle.reader.specs.Loading.{Enough, Shows, Loaded}
-use Rattle.reader.proofs.Whole.{Accepted, whole_from}
+use Rattle.reader.proofs.Whole.{whole_from}
 use Rattle.reader.proofs.WholeReads.{Stating, TextReads, whole-reads}
 use Rattle.reader.proofs.Rooms.{same-or-room}
 use Rattle.reader.proofs.Stated.{rules-kept, model-stated, variable_names, value_names, operator_names}

@@ -1,5 +1,5 @@
 -- Operators: what was read if they were accepted, and that all valid ones are.
-use Rattle.std.proofs.Common.{◌≡◌, ℕ, zero, suc, ◌+◌, ◌-◌, ◌^◌, ◌<◌, ◌≤◌, Bool, true, false, cond, ltb, List, [], ◌∷◌, ◌++◌, map, length, get_or, drop, Some, None, codes, decimal, sym, refl, ap, ◌∙◌, arith}
+use Rattle.std.proofs.Common.{◌≡◌, ℕ, zero, suc, ◌+◌, ◌<◌, ◌≤◌, true, ltb, List, [], ◌∷◌, ◌++◌, map, length, get_or, drop, Some, codes, decimal, sym, refl, ap, ◌∙◌, arith}
 use Rattle.std.proofs.lemmas.List.{append_assoc, append-nil, length-append, drop_all, drop_at}
 use Rattle.std.proofs.lemmas.Bool.{ltb-true, lt-ltb}
 use Rattle.std.specs.List.{flat_map, AllByRecursion as All}
@@ -10,17 +10,15 @@ use Rattle.tables.specs.declared.records.Operator.{Operator}
 use Rattle.tables.specs.declared.records.Entry.{Entry}
 use Rattle.tables.specs.Records.{spanned}
 use Rattle.tables.specs.Rules.{SpanFits, Distinct}
-use Rattle.task.specs.Model.{Action}
-use Rattle.lines.specs.Printable.{printable}
 use Rattle.lines.specs.Reading.{Place, Step, read, and_then, tested, word_of, below_from, name_of, turns}
 use Rattle.sections.specs.declared.entries.Shape.TheVariants.{Fact, Effect}
-use Rattle.sections.specs.Entries.{group_of, entry_more}
+use Rattle.sections.specs.Entries.{group_of}
 use Rattle.sections.specs.Operators.{operator_of, operator_more, inside}
-use Rattle.reader.specs.Named.{NamedOperator, ValidOperator, FactFits, EffectFits, entries_of}
+use Rattle.reader.specs.Named.{NamedOperator, ValidOperator, entries_of}
 use Rattle.reader.specs.Rendering.{spelled, operator_lines, fact_line, effect_line}
 use Rattle.reader.proofs.Leaves.{after, tested-parts, past, span, Stands, stands-past, Line, word-from, word-reads, below-from, below-reads, name-from, name-reads, span-bytes, span_fits, spelled-append}
 use Rattle.reader.proofs.Distinct.{distinct_none, distinct-front}
-use Rattle.reader.proofs.Entries.{domains, length-domains, Group, group-from, GroupReads, group_reads}
+use Rattle.reader.proofs.Entries.{domains, length-domains, Group, group-from, group_reads}
 
 pub with_it : {A C : Type 0} → A → (A → C) → C
 with_it a k = k a

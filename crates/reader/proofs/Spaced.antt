@@ -1,9 +1,9 @@
 -- Lines of several numbers, one space between two: what was read, and what is read.
-use Rattle.std.proofs.Common.{◌≡◌, ℕ, ◌^◌, ◌<◌, Bool, true, false, ◌&&◌, List, [], ◌∷◌, ◌++◌, Some, None, codes, decimal, Option, sym, refl, ap, ◌∙◌, arith}
+use Rattle.std.proofs.Common.{◌≡◌, ℕ, ◌^◌, ◌<◌, true, List, [], ◌∷◌, ◌++◌, Some, None, codes, decimal, Option, refl, ap, ◌∙◌, arith}
 use Rattle.std.proofs.lemmas.Bool.Decides.{nat_tests}
 use Rattle.tables.specs.Lines.{cut_at}
 use Rattle.lines.specs.declared.number.Number.{Number}
-use Rattle.lines.specs.declared.number.Number.TheVariants.{MinusOne, Value, TooLong}
+use Rattle.lines.specs.declared.number.Number.TheVariants.{MinusOne, Value}
 use Rattle.lines.specs.Printable.{printable}
 use Rattle.lines.specs.Numbers.{number_of, and_of, first_of, two_of, four_of}
 use Rattle.reader.specs.Rendering.{spaced}

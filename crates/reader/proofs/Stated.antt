@@ -1,18 +1,18 @@
 -- Records that stand for a valid task keep the rules, state its model and hand out its names.
-use Rattle.std.proofs.Common.{◌≡◌, ℕ, zero, suc, ◌+◌, ◌-◌, ◌<◌, ◌≤◌, Bool, true, false, cond, List, [], ◌∷◌, ◌++◌, map, length, get_or, take, drop, Some, None, Option, sym, refl, ap, ◌∙◌, arith}
+use Rattle.std.proofs.Common.{◌≡◌, ℕ, zero, suc, ◌+◌, ◌-◌, ◌<◌, ◌≤◌, true, List, [], ◌∷◌, ◌++◌, map, length, get_or, take, Some, None, Option, sym, refl, ap, ◌∙◌, arith}
 use Rattle.std.proofs.lemmas.List.{append_assoc, length-append, take_at, drop_at}
 use Rattle.std.proofs.ByRecursion.{All-get_or, All-append, All-weaker}
 use Rattle.std.specs.List.{flat_map, AllByRecursion as All}
 use Rattle.tables.specs.declared.records.Variable.{Variable}
 use Rattle.tables.specs.declared.records.Operator.{Operator}
 use Rattle.tables.specs.declared.records.Entry.{Entry}
-use Rattle.tables.specs.Lines.{cut_line, nth_line, first_line, after_line}
+use Rattle.tables.specs.Lines.{nth_line}
 use Rattle.tables.specs.Records.{zero_variable, zero_operator, zero_entry, part, spanned, end_at, effects_at}
-use Rattle.tables.specs.Rules.{SpanFits, VariablesFit, EntriesFit, RequiredFit, Distinct, OperatorsFit, OperatorsDistinct, Rules}
-use Rattle.task.specs.Model.{Model, Action, action, stated}
+use Rattle.tables.specs.Rules.{VariablesFit, EntriesFit, RequiredFit, Distinct, OperatorsFit, OperatorsDistinct, Rules}
+use Rattle.task.specs.Model.{action, stated}
 use Rattle.lines.specs.Printable.{printable}
 use Rattle.format.specs.Whole.{Held}
-use Rattle.reader.specs.Named.{NamedVariable, NamedOperator, NamedTask, ValidVariable, ValidOperator, RequiredBelow, FactFits, EffectFits, Valid, domains_of, model_of, entries_of, all_entries}
+use Rattle.reader.specs.Named.{NamedVariable, NamedOperator, NamedTask, ValidVariable, ValidOperator, RequiredBelow, FactFits, EffectFits, Valid, domains_of, model_of, entries_of}
 use Rattle.reader.specs.Rendering.{spelled}
 use Rattle.reader.proofs.Leaves.{cut_line_lem}
 use Rattle.reader.proofs.Entries.{domains, domain-at, length-domains}

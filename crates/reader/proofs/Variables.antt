@@ -1,19 +1,18 @@
 -- Variables and the initial state: what was read if they were accepted, and that all valid ones are.
-use Rattle.std.proofs.Common.{◌≡◌, ℕ, zero, suc, ◌+◌, ◌-◌, ◌^◌, ◌<◌, ◌≤◌, Bool, true, false, cond, ltb, List, [], ◌∷◌, ◌++◌, map, length, get_or, codes, decimal, sym, refl, ap, ◌∙◌, arith}
+use Rattle.std.proofs.Common.{◌≡◌, ℕ, zero, suc, ◌+◌, ◌<◌, ◌≤◌, true, ltb, List, [], ◌∷◌, ◌++◌, map, length, codes, decimal, sym, refl, ap, ◌∙◌, arith}
 use Rattle.std.proofs.lemmas.List.{append_assoc, append-nil, length-append}
 use Rattle.std.proofs.lemmas.Bool.{ltb-true, lt-ltb}
 use Rattle.std.specs.List.{flat_map, AllByRecursion as All}
 use Rattle.tables.specs.declared.cause.Cause.TheVariants as cause
-use Rattle.tables.specs.declared.records.Span.{Span}
 use Rattle.tables.specs.declared.records.Variable.{Variable}
 use Rattle.tables.specs.Records.{spanned}
 use Rattle.tables.specs.Rules.{SpanFits}
 use Rattle.lines.specs.Printable.{printable}
-use Rattle.lines.specs.Reading.{Place, Step, read, and_then, tested, word_of, number_from, below_from, name_of, turns, passed}
+use Rattle.lines.specs.Reading.{Place, read, tested, word_of, number_from, below_from, name_of, turns, passed}
 use Rattle.sections.specs.Variables.{variable_of, variable_more, with_initial, initials_of}
 use Rattle.reader.specs.Named.{NamedVariable, ValidVariable, domains_of}
 use Rattle.reader.specs.Rendering.{spelled, variable_lines}
-use Rattle.reader.proofs.Leaves.{after, tested-parts, past, span, Stands, stands-past, Line, word-from, word-reads, number-from, number-reads, below-from, below-reads, name-from, name-reads, span-bytes, span_fits, spelled-append, Passed, pass-from, Passes, pass-reads}
+use Rattle.reader.proofs.Leaves.{after, tested-parts, past, span, Stands, stands-past, word-from, word-reads, number-from, number-reads, below-from, below-reads, name-from, name-reads, span-bytes, span_fits, spelled-append, pass-from, pass-reads}
 use Rattle.reader.proofs.Entries.{domains}
 
 -- the bytes of a variable's lines before r

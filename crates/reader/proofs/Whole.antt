@@ -1,6 +1,6 @@
 -- Whole texts: an accepted one is the text of a valid task, and the text of every valid task is accepted.
-use Rattle.std.proofs.Common.{◌≡◌, ℕ, zero, suc, ◌+◌, ◌-◌, ◌^◌, ◌<◌, ◌≤◌, Bool, true, false, cond, eqb, ltb, List, [], ◌∷◌, ◌++◌, map, length, get_or, drop, Some, None, codes, decimal, sym, refl, ap, ◌∙◌, arith}
-use Rattle.std.proofs.lemmas.List.{append_assoc, append-nil, length-append, nil_from_length}
+use Rattle.std.proofs.Common.{◌≡◌, ℕ, suc, ◌+◌, ◌<◌, ◌≤◌, Bool, true, false, cond, eqb, List, [], ◌∷◌, ◌++◌, map, length, None, codes, decimal, sym, refl, ap, ◌∙◌, arith}
+use Rattle.std.proofs.lemmas.List.{append_assoc, nil_from_length}
 use Rattle.std.proofs.lemmas.Bool.{eqb-true}
 use Rattle.std.specs.List.{flat_map, AllByRecursion as All}
 use Rattle.tables.specs.declared.cause.Cause.TheVariants as cause
@@ -8,17 +8,17 @@ use Rattle.tables.specs.declared.records.Variable.{Variable}
 use Rattle.tables.specs.declared.records.Operator.{Operator}
 use Rattle.tables.specs.declared.records.Entry.{Entry}
 use Rattle.tables.specs.Rules.{Distinct}
-use Rattle.lines.specs.Reading.{Place, Step, refused, read, and_then, fault_next, word_of, number_from, below_from, turns, top}
-use Rattle.sections.specs.declared.entries.Shape.TheVariants.{Fact, Effect}
+use Rattle.lines.specs.Reading.{Place, refused, read, fault_next, word_of, number_from, below_from, turns, top}
+use Rattle.sections.specs.declared.entries.Shape.TheVariants.{Fact}
 use Rattle.sections.specs.Variables.{variables_of, initials_of}
 use Rattle.sections.specs.Entries.{group_of}
 use Rattle.sections.specs.Operators.{operators_of, operator_more, inside}
-use Rattle.format.specs.Whole.{Held, Room, heading_of, state_of, goal_of, ended, body_of, whole_of}
+use Rattle.format.specs.Whole.{Held, Room, heading_of, state_of, goal_of, ended, whole_of}
 use Rattle.reader.specs.Named.{NamedVariable, NamedOperator, NamedTask, ValidVariable, ValidOperator, FactFits, Valid, domains_of, entries_of, all_entries}
 use Rattle.reader.specs.Rendering.{spelled, fact_line, variable_lines, operator_lines, render}
-use Rattle.reader.proofs.Leaves.{after, past, place, Stands, stands-past, Line, word-from, word-reads, number-from, number-reads, below-from, below-reads, spelled-append}
+use Rattle.reader.proofs.Leaves.{after, word-from, number-from, below-from, spelled-append}
 use Rattle.reader.proofs.Distinct.{distinct_none}
-use Rattle.reader.proofs.Entries.{domains, length-domains, Group, group-from, GroupReads, group_reads}
+use Rattle.reader.proofs.Entries.{domains, length-domains, group-from}
 use Rattle.reader.proofs.Variables as variables
 use Rattle.reader.proofs.Operators as operators
 

@@ -1,22 +1,20 @@
 -- The text of every valid task is accepted where the records suffice, and the records then stand for that task.
-use Rattle.std.proofs.Common.{◌≡◌, ℕ, zero, suc, ◌+◌, ◌-◌, ◌^◌, ◌<◌, ◌≤◌, Bool, true, false, cond, List, [], ◌∷◌, ◌++◌, map, length, get_or, drop, None, codes, decimal, sym, refl, ap, ◌∙◌, arith}
-use Rattle.std.proofs.lemmas.List.{append-nil, length-append}
+use Rattle.std.proofs.Common.{◌≡◌, ℕ, zero, suc, ◌+◌, ◌≤◌, List, [], ◌∷◌, ◌++◌, map, length, get_or, None, codes, decimal, sym, refl, ap, ◌∙◌, arith}
+use Rattle.std.proofs.lemmas.List.{length-append}
 use Rattle.std.proofs.ByRecursion.{All-weaker}
 use Rattle.std.specs.List.{flat_map, AllByRecursion as All}
 use Rattle.tables.specs.declared.records.Variable.{Variable}
 use Rattle.tables.specs.declared.records.Operator.{Operator}
 use Rattle.tables.specs.declared.records.Entry.{Entry}
 use Rattle.tables.specs.Rules.{Distinct}
-use Rattle.lines.specs.Reading.{Place, Step, read, and_then, word_of, number_from, below_from, turns, top}
+use Rattle.lines.specs.Reading.{Place, Step, read, word_of, below_from, top}
 use Rattle.sections.specs.declared.entries.Shape.TheVariants.{Fact}
-use Rattle.sections.specs.Variables.{variables_of, initials_of}
-use Rattle.sections.specs.Entries.{group_of}
-use Rattle.sections.specs.Operators.{operators_of, operator_more, inside}
-use Rattle.format.specs.Whole.{Held, Room, heading_of, state_of, goal_of, ended, body_of, whole_of}
+use Rattle.sections.specs.Operators.{operators_of, inside}
+use Rattle.format.specs.Whole.{Held, Room, heading_of, state_of, goal_of, whole_of}
 use Rattle.reader.specs.Named.{NamedVariable, NamedOperator, NamedTask, ValidVariable, ValidOperator, FactFits, Valid, domains_of, entries_of, all_entries}
 use Rattle.reader.specs.Rendering.{spelled, fact_line, variable_lines, operator_lines, render}
 use Rattle.reader.proofs.Leaves.{past, Stands, stands-past, word-reads, number-reads, below-reads}
-use Rattle.reader.proofs.Entries.{domains, length-domains, GroupReads, group_reads}
+use Rattle.reader.proofs.Entries.{domains, length-domains, group_reads}
 use Rattle.reader.proofs.Variables as variables
 use Rattle.reader.proofs.Operators as operators
 use Rattle.reader.proofs.Operators.{with_it}

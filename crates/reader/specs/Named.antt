@@ -1,5 +1,5 @@
 -- A planning task with the names of its variables, values and operators, and what makes one valid.
-use Rattle.std.specs.Prelude.{◌≡◌, ℕ, ◌<◌, ◌≤◌, true, List, [], ◌∷◌, ◌++◌, map, length, Some, None, Option, slice_index}
+use Rattle.std.specs.Prelude.{◌≡◌, ℕ, ◌<◌, ◌≤◌, true, List, ◌++◌, map, length, Some, None, Option, slice_index}
 use Rattle.std.specs.List.{flat_map, AllByRecursion as All}
 use Rattle.tables.specs.declared.records.Entry.{Entry}
 use Rattle.tables.specs.Rules.{Distinct}

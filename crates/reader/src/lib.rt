@@ -1,2 +1,4 @@
 // A task text turned into a task.
+#![tactic(auto)]
+
 pub mod load;

@@ -1,5 +1,5 @@
 -- An advance in the words of the plain search.
-use Rattle.std.proofs.Common.{◌≡◌, ℕ, zero, suc, ◌+◌, ◌<◌, ◌≤◌, Bool, true, false, ◌≢◌, List, [], ◌∷◌, length, set, sym, refl, ap, ◌∙◌, subst, arith, length-set}
+use Rattle.std.proofs.Common.{◌≡◌, ℕ, zero, suc, ◌<◌, Bool, List, [], length, set, sym, refl, ap, ◌∙◌, subst, arith, length-set}
 use Rattle.task.specs.Model.{Model}
 use Rattle.plain.specs.Plain as plain
 use Rattle.plain.specs.Plain.{Plain, Expansions, Expands, Finds, Overflows, Advances, Advances.expands_all, Advances.finds, Advances.exhausts, Advances.overflows, reports}
@@ -11,7 +11,7 @@ use Rattle.search.specs.declared.core.Event.TheVariants.{Expanded, Goal, Empty, 
 use Rattle.search.specs.declared.answer.Progress.{Progress}
 use Rattle.memory.specs.Rows.{nodes_of, Consistent, Untouched}
 use Rattle.memory.specs.Steps.{WithinLimits}
-use Rattle.search.specs.Search.{plain_of, status_of, ended, find_of, outcome_of, go_ahead_of, with_status, Stepped, Stops, Ran, Ran.whole, Ran.stopped, Concludes, Standing, Valid}
+use Rattle.search.specs.Search.{plain_of, status_of, ended, outcome_of, go_ahead_of, Stepped, Stops, Ran, Ran.whole, Ran.stopped, Concludes, Standing, Valid}
 use Rattle.memory.specs.Trees.{ParentTree}
 use Rattle.memory.proofs.Held.{count_of}
 use Rattle.memory.proofs.Changes.{untouched-same}

@@ -1,5 +1,5 @@
 -- A part of a row that is cut where the row ends, as the row's own slices have it.
-use Rattle.std.proofs.Common.{◌≡◌, ℕ, ◌+◌, ◌-◌, ◌<◌, ◌≤◌, min, ◌⊎◌, List, [], ◌∷◌, ◌++◌, length, take, drop, sym, refl, ap, ◌∙◌, inl, inr, arith, length-drop, drop_of_length-le, take_all}
+use Rattle.std.proofs.Common.{◌≡◌, ℕ, ◌-◌, ◌<◌, ◌≤◌, min, ◌⊎◌, List, ◌++◌, length, take, drop, sym, ap, ◌∙◌, inl, inr, arith, length-drop, drop_of_length-le, take_all}
 use lib.Seq.{take-length, drop-length}
 use Rattle.plain.proofs.Splits.{lt-or-le}
 use Rattle.search.specs.declared.data.Part.{Part}

@@ -1,5 +1,5 @@
 -- That a search is valid has one proof at most, so that a struct can keep it in a ghost field.
-use Rattle.std.proofs.Common.{◌≡◌, ℕ, List}
+use Rattle.std.proofs.Common.{ℕ, List}
 use mathlib.Core.Logic.{∥∥₁_elim, ∥∥₁_prop}
 use std.HLevel.{Π_prop}
 use native.Mathlib.Bridge.{le_prop}

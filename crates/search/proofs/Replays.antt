@@ -1,15 +1,15 @@
 -- Runs by calls given as data.
-use Rattle.std.proofs.Common.{◌≡◌, ℕ, zero, suc, ◌+◌, ◌<◌, ◌≤◌, ◌≢◌, List, [], ◌∷◌, length, get_or, set, sym, refl, ap, ◌∙◌, subst, arith, get_or-set_other, get_or-set_same}
+use Rattle.std.proofs.Common.{◌≡◌, ℕ, ◌+◌, ◌<◌, ◌≢◌, List, [], ◌∷◌, length, get_or, set, sym, refl, subst, arith, get_or-set_other, get_or-set_same}
 use Rattle.task.specs.declared.task.Task.{Task}
-use Rattle.task.specs.Model.{Model, model}
+use Rattle.task.specs.Model.{model}
 use Rattle.task.proofs.Actions.{task-well-formed}
 use Rattle.plain.specs.Plain as plain
 use Rattle.plain.specs.Plain.{Kind, Lawful, Plain, Answer}
-use Rattle.plain.specs.Runs.{Run, Exchange, Reached, Law}
+use Rattle.plain.specs.Runs.{Run, Reached}
 use Rattle.plain.proofs.Whole.{search-law}
 use Rattle.search.specs.declared.data.Call.{Call}
 use Rattle.search.specs.declared.data.Reply.{Reply}
-use Rattle.search.specs.Replay.{Lent, CallMade, ReplyOf, OneCall, RunOf, LawfulReplay, zero_node, no_call}
+use Rattle.search.specs.Replay.{Lent, ReplyOf, OneCall, RunOf, LawfulReplay, zero_node, no_call}
 
 told-stays : (cs : List Call) (rs ts : List Reply) (row₀ : Lent) (run : Run) (n : ℕ) (row : Lent) → ((k : ℕ) → k < n → get_or ts k zero_node ≡ get_or rs k zero_node) → RunOf cs rs row₀ run n row → RunOf cs ts row₀ run n row
 told-stays cs rs ts row₀ [] n row h q = q

@@ -1,20 +1,16 @@
 -- One step of the search in the words of the plain search.
-use Rattle.std.proofs.Common.{◌≡◌, ℕ, zero, suc, ◌+◌, ◌-◌, ◌*◌, ◌^◌, ◌<◌, ◌≤◌, max, List, [], ◌∷◌, ◌++◌, length, get_or, set, sym, refl, ap, ◌∙◌, subst, mul-le-mul_right, mul-le-mul, mul-le-mul_left, add-one, arith, length-set, get_or-set_same}
-use Rattle.task.specs.Model.{Model, prices, dearest, IsGoal, Applies, applied}
+use Rattle.std.proofs.Common.{◌≡◌, ℕ, zero, suc, ◌+◌, ◌-◌, ◌*◌, ◌^◌, ◌<◌, ◌≤◌, max, List, length, set, sym, refl, ap, ◌∙◌, subst, mul-le-mul_right, mul-le-mul_left, add-one, arith, length-set, get_or-set_same}
+use Rattle.task.specs.Model.{Model, prices, dearest, IsGoal}
 use Rattle.plain.specs.Plain as plain
 use Rattle.plain.specs.Plain.{Plain, GeneratesAll, Expands, Finds, Overflows, Expansions}
-use Rattle.plain.specs.Counts.{Budget}
 use Rattle.plain.proofs.Placed.{set-placed}
 use Rattle.plain.proofs.Budget.{budget-take, budget-total}
 use Rattle.queue.specs.declared.entries.SearchEntry.{SearchEntry}
 use Rattle.search.specs.declared.core.Core.{Core}
-use Rattle.search.specs.declared.answer.Find.{Find}
 use Rattle.search.specs.declared.core.Status.TheVariants.{Running}
-use Rattle.memory.specs.declared.memory.Memory.{Memory}
-use Rattle.memory.specs.Rows.{nodes_of, state_at, record_at, TakenFirst}
-use Rattle.memory.specs.Steps.{NoRoom, CostsBounded, WithinLimits}
+use Rattle.memory.specs.Rows.{nodes_of, TakenFirst}
+use Rattle.memory.specs.Steps.{NoRoom, WithinLimits}
 use Rattle.search.specs.Search.{plain_of, status_of, ended}
-use Rattle.memory.proofs.Held.{count_of, state-is, g-is}
 use Rattle.memory.proofs.Tried.{by_place, limits-generates}
 
 module _ (ns : List plain.Node) (top : SearchEntry) (ms : List plain.Node) (taken : TakenFirst ns top ms) where

@@ -1,5 +1,5 @@
 -- Calls given as data, their replies, and the run that they are.
-use Rattle.std.specs.Prelude.{◌≡◌, ℕ, ◌+◌, ◌<◌, ◌≤◌, Bool, true, false, List, [], ◌∷◌, ◌++◌, length, take, drop, Ok, Err, Result, slice_index_or}
+use Rattle.std.specs.Prelude.{◌≡◌, ℕ, ◌+◌, false, List, [], ◌∷◌, ◌++◌, length, take, drop, Ok, Err, Result, slice_index_or}
 use Rattle.tables.specs.declared.cause.Cause.{Cause}
 use Rattle.plain.specs.declared.fault.Fault.TheVariants.{Own}
 use Rattle.task.specs.Model.{Model}

@@ -1,6 +1,6 @@
 -- The plain search that a core stands for.
-use Rattle.std.specs.Prelude.{◌≡◌, ℕ, ◌+◌, ◌-◌, ◌*◌, ◌<◌, ◌≤◌, Bool, true, false, List, [], ◌∷◌, length, Ok, Err, Result}
-use Rattle.task.specs.Model.{Model, prices, dearest}
+use Rattle.std.specs.Prelude.{◌≡◌, ℕ, ◌<◌, Bool, true, false, length, Ok, Err, Result}
+use Rattle.task.specs.Model.{Model}
 use Rattle.plain.specs.Plain as plain
 use Rattle.plain.specs.Plain.{Kind, Plain, Expands, Expansions, Finds, Overflows, Queued}
 use Rattle.search.specs.declared.core.Core.{Core}

@@ -1,5 +1,5 @@
 -- The entries of a task text: goal facts, conditions and effects, each in a line of its own.
-use Rattle.std.specs.Prelude.{ℕ, Bool, true, false, cond, not, ◌||◌, List, [], ◌∷◌, ◌++◌, length, drop, Some, None, Option, ◌==◌, nat_lt, slice_index_or}
+use Rattle.std.specs.Prelude.{ℕ, Bool, false, cond, not, ◌||◌, List, [], ◌∷◌, ◌++◌, length, drop, Some, None, Option, ◌==◌, nat_lt, slice_index_or}
 use Rattle.tables.specs.declared.cause.Cause.TheVariants as cause
 use Rattle.tables.specs.declared.records.Variable.{Variable}
 use Rattle.tables.specs.declared.records.Entry.{Entry}

@@ -1,4 +1,6 @@
 // The sections of a task text, each read into lent records: variables and their initial values, groups of entries, operators.
+#![tactic(auto)]
+
 pub mod entries;
 pub mod operators;
 pub mod seen;

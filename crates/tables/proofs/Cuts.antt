@@ -1,6 +1,6 @@
 -- The first separator of a list, by its index.
-use Rattle.std.proofs.Common.{◌≡◌, ℕ, zero, suc, ◌+◌, ◌<◌, ◌≤◌, Bool, true, false, cond, eqb, List, [], ◌∷◌, length, get_or, take, drop, Some, None, Option, sym, refl, ap, ◌∙◌, suc-le-suc, zero-le, add-one, arith, rules, eq-eqb}
-use Rattle.tables.specs.Lines.{cut_at, before}
+use Rattle.std.proofs.Common.{◌≡◌, ℕ, zero, suc, ◌<◌, List, [], ◌∷◌, length, get_or, take, drop, Some, None, refl, arith, rules}
+use Rattle.tables.specs.Lines.{cut_at}
 
 pub cut-found : (sep : ℕ) (s : List ℕ) (i : ℕ) → i < length s → ((k : ℕ) → k < i → get_or s k 0 ≡ sep → ⊥) → get_or s i 0 ≡ sep → cut_at sep s ≡ Some (take i s, drop (suc i) s)
 cut-found sep [] i h none e = let no_place : ⊥ = omega arith in absurd no_place

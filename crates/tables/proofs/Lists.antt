@@ -1,9 +1,8 @@
 -- What stands at a place of a row of records, of its maps and of its parts.
-use Rattle.std.proofs.Common.{◌≡◌, ℕ, zero, suc, ◌+◌, ◌-◌, ◌<◌, ◌≤◌, List, [], ◌∷◌, map, length, get_or, take, drop, refl, ◌∙◌, le_of_suc-le-suc, not-suc-le-zero, arith, length-drop, length-take, get_or-drop, get_or-take}
+use Rattle.std.proofs.Common.{◌≡◌, ℕ, zero, suc, ◌+◌, ◌-◌, ◌<◌, ◌≤◌, List, [], ◌∷◌, map, length, get_or, take, drop, refl, ◌∙◌, arith, length-drop, length-take, get_or-drop, get_or-take}
 use Rattle.tables.specs.declared.records.Variable.{Variable}
-use Rattle.tables.specs.declared.records.Operator.{Operator}
 use Rattle.tables.specs.declared.records.Entry.{Entry}
-use Rattle.tables.specs.Records.{zero_variable, zero_operator, zero_entry, part}
+use Rattle.tables.specs.Records.{zero_variable, zero_entry, part}
 use Rattle.tables.specs.Rules.{EntriesFit}
 use Rattle.tables.specs.Rules.{EntriesInside}
 

@@ -1,5 +1,5 @@
 -- Counting lines one at a time.
-use Rattle.std.proofs.Common.{◌≡◌, ℕ, zero, suc, ◌+◌, ◌-◌, ◌<◌, List, [], sym, refl, ap, ◌∙◌, arith}
+use Rattle.std.proofs.Common.{◌≡◌, ℕ, zero, suc, ◌+◌, ◌-◌, ◌<◌, List, [], refl, ap, arith}
 use Rattle.tables.specs.Lines.{cut_line, after_line, nth_line}
 
 -- an empty text has only empty lines

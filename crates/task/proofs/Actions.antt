@@ -1,14 +1,13 @@
 -- What operators do, by place; and that a task's states are closed under them.
-use Rattle.std.proofs.Common.{◌≡◌, ℕ, zero, suc, ◌+◌, ◌-◌, ◌<◌, ◌≤◌, ◌≢◌, List, [], ◌∷◌, map, length, get_or, set, sym, refl, ap, ◌∙◌, subst, suc-le-suc, le_of_suc-le-suc, not-suc-le-zero, arith, length-set, get_or-set_other, get_or-set_same}
+use Rattle.std.proofs.Common.{◌≡◌, ℕ, zero, suc, ◌+◌, ◌<◌, ◌≤◌, List, [], ◌∷◌, map, length, get_or, set, sym, refl, ◌∙◌, suc-le-suc, le_of_suc-le-suc, not-suc-le-zero, arith, length-set, get_or-set_other, get_or-set_same}
 use native.Mathlib.Decide.{ℕ_discrete}
 use lib.ListN.{length-map}
 use Rattle.tables.specs.declared.records.Variable.{Variable}
 use Rattle.tables.specs.declared.records.Operator.{Operator}
 use Rattle.tables.specs.declared.records.Entry.{Entry}
 use Rattle.task.specs.declared.task.Task.{Task}
-use Rattle.tables.specs.Records.{zero_variable, zero_operator, zero_entry, part, effects_at, end_at}
-use Rattle.tables.specs.Rules.{EntriesFit, OperatorsFit}
-use Rattle.task.specs.Model.{Model, Action, model, prices, action, idle, operator, AllHold, Admits, AllAdmit, updated, IsState, Applies, applied, WellFormed, dearest}
+use Rattle.tables.specs.Records.{zero_operator, zero_entry, part, effects_at, end_at}
+use Rattle.task.specs.Model.{Model, model, prices, action, idle, AllHold, Admits, AllAdmit, updated, IsState, Applies, applied, WellFormed, dearest}
 use Rattle.tables.proofs.Lists.{domain-at, initial-at, part_at}
 
 pub hold-from : (s : List ℕ) (es : List Entry) → ((k : ℕ) → k < length es → get_or s (get_or es k zero_entry).variable 0 ≡ (get_or es k zero_entry).value) → AllHold s es

@@ -1,6 +1,6 @@
 -- Lists of operators that are joined, and one operator more at a list's end.
-use Rattle.std.proofs.Common.{◌≡◌, ℕ, zero, suc, ◌+◌, ◌-◌, ◌^◌, ◌<◌, ◌≤◌, min, List, [], ◌∷◌, ◌++◌, length, get_or, take, sym, refl, ap, ◌∙◌, add-zero, add_assoc, zero-add, arith, take-suc}
-use Rattle.task.specs.Model.{Model, IsState, Applies, applied, Leads, Cost, WellFormed}
+use Rattle.std.proofs.Common.{◌≡◌, ℕ, zero, suc, ◌+◌, min, List, [], ◌∷◌, ◌++◌, get_or, take, sym, refl, ap, ◌∙◌, add-zero, add_assoc, zero-add, arith}
+use Rattle.task.specs.Model.{Model, Applies, applied, Leads, Cost}
 use Rattle.task.specs.Walking.{CostsJoin, LeadsJoin}
 
 pub costs-join : CostsJoin

@@ -1,8 +1,6 @@
 -- What the calls on a task answer, and what then stands in the rows that they were handed.
-use Rattle.std.specs.Prelude.{◌≡◌, ℕ, ◌<◌, Bool, true, false, List, length, MatchBool, ◌≢◌}
+use Rattle.std.specs.Prelude.{◌≡◌, ℕ, Bool, true, false, List, length, MatchBool, ◌≢◌}
 use Rattle.tables.specs.Tells.{Tells}
-use Rattle.tables.specs.declared.records.Entry.{Entry}
-use Rattle.tables.specs.Records.{zero_entry}
 use Rattle.task.specs.Model.{Model, IsState, IsGoal, Applies, applied}
 
 -- a row of the length of xs now holds xs; any other row is refused and stays

@@ -1,5 +1,5 @@
 -- A planning task as mathematics has it: its states, what operators do, plans and their cost, and reachable states.
-use Rattle.std.specs.Prelude.{◌≡◌, ℕ, ◌+◌, ◌<◌, ◌≤◌, max, List, [], ◌∷◌, map, length, Some, None, Option, slice_index, slice_index_or, slice_set}
+use Rattle.std.specs.Prelude.{◌≡◌, ℕ, ◌+◌, ◌<◌, max, List, [], ◌∷◌, map, length, Some, None, Option, slice_index, slice_index_or, slice_set}
 use Rattle.tables.specs.declared.records.Variable.{Variable}
 use Rattle.tables.specs.declared.records.Operator.{Operator}
 use Rattle.tables.specs.declared.records.Entry.{Entry}

@@ -1,8 +1,8 @@
 -- What a walk along a list of operators answers, and two laws of lists of operators that are joined.
-use Rattle.std.specs.Prelude.{◌≡◌, ℕ, ◌+◌, ◌-◌, ◌^◌, ◌<◌, ◌≤◌, min, Bool, true, false, List, [], ◌∷◌, ◌++◌, length, take, slice_index}
+use Rattle.std.specs.Prelude.{◌≡◌, ℕ, ◌+◌, ◌-◌, ◌^◌, ◌<◌, ◌≤◌, min, List, ◌++◌, length, take, slice_index}
 use Rattle.tables.specs.Tells.{Tells}
 use Rattle.task.specs.declared.walk.Walked.{Walked}
-use Rattle.task.specs.Model.{Model, prices, IsState, Applies, Leads, Cost, cost}
+use Rattle.task.specs.Model.{Model, IsState, Applies, Leads, Cost, cost}
 use Rattle.task.specs.Answers.{IsGoalState}
 
 -- from s, the first operators of p, so many at that cost, lead to u; then the list ends, or the next one does not apply.

@@ -1,3 +1,5 @@
+#![tactic(auto)]
+
 // Tests of crate `task` on the worked example and on damaged records.
 #[cfg(test)]
 mod making;

@@ -1,5 +1,7 @@
 // Reads a task text from standard input, walks operators, named by the arguments, from its initial state, and prints every
 // state on the way.
+#![tactic(auto)]
+
 use console::{read_text, write_fault};
 use reader::load::load;
 use std::io::Write;

@@ -1,11 +1,11 @@
 -- What is left of facts and effects that are cut down to a pattern: just what they say of the pattern's variables.
-use Rattle.std.specs.Prelude.{◌≡◌, ℕ, zero, suc, ◌+◌, ◌-◌, ◌<◌, ◌≤◌, Bool, true, false, cond, ◌⊎◌, List, [], ◌∷◌, map, length, Some, None, Option, ◌==◌, ◌≢◌, slice_index, slice_index_or, refl}
+use Rattle.std.specs.Prelude.{◌≡◌, ℕ, zero, suc, ◌-◌, ◌<◌, ◌≤◌, cond, ◌⊎◌, List, [], ◌∷◌, length, Some, None, Option, ◌==◌, ◌≢◌, slice_index, slice_index_or, refl}
 use Rattle.std.proofs.Common.{sym, ap, ◌∙◌, subst, inl, inr, ⊎_elim, arith}
 use Rattle.std.proofs.lemmas.Bool.{cases_eq, eq-eqb, ne_eqb, cond-true, cond-false}
 use Rattle.tables.specs.declared.records.Entry.{Entry}
-use Rattle.task.specs.Model.{Model, Action, Admits}
+use Rattle.task.specs.Model.{Model, Action}
 use Rattle.abstraction.specs.declared.part.OperatorPart.{OperatorPart}
-use Rattle.abstraction.specs.Patterns.{Rises, IsPattern}
+use Rattle.abstraction.specs.Patterns.{IsPattern}
 use Rattle.abstraction.specs.Projected.{next, place_of, kept_at, cut_down, cut_action}
 use Rattle.abstraction.specs.Parts.{HoldsAt, AdmitsAt, value_after, PartOf, GoalPart}
 

@@ -1,12 +1,12 @@
 -- Each plan of the task is a plan of the abstract task.
-use Rattle.std.specs.Prelude.{◌≡◌, ℕ, zero, suc, ◌+◌, ◌-◌, ◌<◌, ◌≤◌, ◌⊎◌, List, [], ◌∷◌, map, length, Some, None, Option, slice_index, slice_index_or, slice_set, refl}
-use Rattle.std.proofs.Common.{sym, ap, ◌∙◌, subst, inl, inr, ⊎_elim, arith, length-set, ext_get_or, get_or-set_same, get_or-set_other}
+use Rattle.std.specs.Prelude.{◌≡◌, ℕ, ◌<◌, List, [], ◌∷◌, length, slice_index, slice_index_or, slice_set, refl}
+use Rattle.std.proofs.Common.{sym, ap, ◌∙◌, subst, ⊎_elim, arith, length-set, ext_get_or, get_or-set_same, get_or-set_other}
 use Rattle.std.proofs.lemmas.List.{get_or-map, length-map}
 use Rattle.std.proofs.lemmas.Bool.{cases_eq}
 use Rattle.tables.specs.declared.records.Entry.{Entry}
-use Rattle.task.specs.Model.{Model, Action, IsState, AllHold, Admits, AllAdmit, updated, idle, operator, IsGoal, Applies, applied, Plan, WellFormed}
+use Rattle.task.specs.Model.{Model, IsState, AllHold, Admits, AllAdmit, updated, idle, operator, IsGoal, Applies, applied, Plan, WellFormed}
 use Rattle.abstraction.specs.Patterns.{IsPattern, abstraction}
-use Rattle.abstraction.specs.Projected.{sizes, place_of, kept_at, cut_down, cut_action, projected}
+use Rattle.abstraction.specs.Projected.{sizes, kept_at, cut_down, cut_action, projected}
 use Rattle.abstraction.specs.Lawful.Cutting.{Sorted, sorted, same_place, Found, Missing, place_found}
 
 pub abstraction-at : (pattern s : List ℕ) (i : ℕ) → i < length pattern → slice_index (abstraction pattern s) i ≡ slice_index s (slice_index pattern i)

@@ -1,5 +1,5 @@
 -- Lemmas on price rows, on what plans cost at them, and on answers.
-use Rattle.std.specs.Prelude.{◌≡◌, ℕ, zero, suc, ◌+◌, ◌<◌, ◌≤◌, List, [], ◌∷◌, length, replicate, Some, None, Ok, Err, Option, Result, slice_index, refl}
+use Rattle.std.specs.Prelude.{◌≡◌, ℕ, zero, suc, ◌≤◌, List, [], ◌∷◌, length, replicate, Some, None, Ok, Err, Option, Result, slice_index, refl}
 use Rattle.std.proofs.Common.{sym, ap, ◌∙◌, zero-le, arith}
 use Rattle.task.specs.Model.{Model, Cost}
 use Rattle.estimator.specs.Price.{Offer, Shares, Admissible, joined}

@@ -1,5 +1,5 @@
 -- The maximum of two estimators that keep the laws keeps them.
-use Rattle.std.specs.Prelude.{◌≡◌, ℕ, List, length, Some, None, Ok, Err, Option, refl}
+use Rattle.std.specs.Prelude.{◌≡◌, ℕ, List, length, Some, Ok, Err, Option, refl}
 use Rattle.std.proofs.Common.{sym, ap, ◌∙◌, subst, true≢false}
 use Rattle.task.specs.Model.{Model, IsState}
 use Rattle.estimator.specs.Price.{Offer, Shares, Admissible}

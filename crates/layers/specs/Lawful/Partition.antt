@@ -1,8 +1,8 @@
 -- The partition of two estimators that keep the laws keeps them.
-use Rattle.std.specs.Prelude.{◌≡◌, ℕ, List, length, Some, None, Ok, Err, Option, refl}
-use Rattle.std.proofs.Common.{sym, ap, ◌∙◌, subst, true≢false}
+use Rattle.std.specs.Prelude.{◌≡◌, ℕ, List, length, Some, Ok, Err, Option, refl}
+use Rattle.std.proofs.Common.{sym, ap, ◌∙◌, true≢false}
 use Rattle.task.specs.Model.{Model, IsState}
-use Rattle.estimator.specs.Price.{Offer, Shares, Admissible}
+use Rattle.estimator.specs.Price.{Shares, Admissible}
 use Rattle.estimator.specs.Laws.{Laws, HoldsT, SetsT, AnswersT}
 use Rattle.estimator.specs.declared.fault.SetFault.{SetFault}
 use Rattle.estimator.specs.Lawful.Rows.{held-offer, ok-err}

@@ -1,7 +1,7 @@
 -- Lemmas on two price rows taken together, and on two answers.
-use Rattle.std.specs.Prelude.{◌≡◌, ℕ, ◌+◌, ◌<◌, ◌≤◌, min, max, List, [], ◌∷◌, length, Some, None, Option, slice_index, refl}
+use Rattle.std.specs.Prelude.{◌≡◌, ℕ, ◌+◌, ◌≤◌, min, max, List, [], ◌∷◌, length, Some, None, Option, slice_index, refl}
 use Rattle.std.proofs.Common.{sym, ap, ◌∙◌, arith}
-use Rattle.task.specs.Model.{Model, Plan, Cost}
+use Rattle.task.specs.Model.{Model, Cost}
 use Rattle.estimator.specs.Price.{Offer, Shares, Admissible}
 use Rattle.estimator.specs.Lawful.Rows.{length-joined, get_or-joined, cost-le}
 use Rattle.layers.specs.Joined.{mins, maxes, sums}

@@ -1,9 +1,9 @@
 -- The leaf keeps the laws.
-use Rattle.std.specs.Prelude.{◌≡◌, ℕ, ◌+◌, List, length, replicate, Ok, Err, Option, slice_index, refl}
+use Rattle.std.specs.Prelude.{◌≡◌, ℕ, ◌+◌, List, length, Ok, Err, Option, slice_index, refl}
 use Rattle.std.proofs.Common.{sym, ap, ◌∙◌, subst, true≢false, zero-le, add-zero}
 use Rattle.std.proofs.lemmas.List.{length-replicate}
 use Rattle.task.specs.Model.{Model, IsState}
-use Rattle.estimator.specs.Price.{Offer, Shares, Admissible}
+use Rattle.estimator.specs.Price.{Shares, Admissible}
 use Rattle.estimator.specs.Laws.{Laws}
 use Rattle.estimator.specs.declared.fault.SetFault.{SetFault}
 use Rattle.estimator.specs.Lawful.Rows.{zeros, ok-err}

@@ -1,5 +1,5 @@
 -- The projection keeps the laws.
-use Rattle.std.specs.Prelude.{◌≡◌, ℕ, zero, suc, ◌+◌, ◌-◌, ◌<◌, ◌≤◌, List, [], ◌∷◌, length, Some, None, Ok, Err, Option, slice_index, slice_index_or, refl}
+use Rattle.std.specs.Prelude.{◌≡◌, ℕ, ◌-◌, ◌<◌, ◌≤◌, List, length, Some, Ok, Err, Option, slice_index, slice_index_or, refl}
 use Rattle.std.proofs.Common.{sym, ap, ◌∙◌, subst, true≢false, ⊎_elim, zero-le, arith}
 use Rattle.std.proofs.lemmas.List.{get_or_past, length-map}
 use Rattle.std.proofs.lemmas.Bool.{cases_lt}
@@ -8,7 +8,6 @@ use Rattle.estimator.specs.Price.{Offer, Shares, Admissible, joined}
 use Rattle.estimator.specs.Laws.{Laws}
 use Rattle.estimator.specs.Lawful.Rows.{ok-err, length-joined, get_or-joined, held-offer}
 use Rattle.estimator.specs.declared.fault.SetFault.{SetFault}
-use Rattle.abstraction.specs.Patterns.{abstraction}
 use Rattle.abstraction.specs.Projected.{projected, cut_action}
 use Rattle.projection.specs.declared.projection.Projection.{Projection}
 use Rattle.projection.specs.Distances.{IsHeld}

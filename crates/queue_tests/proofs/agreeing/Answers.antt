@@ -1,5 +1,5 @@
 -- The empty queue agrees with a list of no entries.
-use Rattle.std.proofs.Common.{length, refl, ap, ◌∙◌, arith}
+use Rattle.std.proofs.Common.{length, refl, ap, arith}
 use Rattle.queue_tests.proofs.Agreement.{empty-list}
 use Rattle.queue_tests.proofs.agreeing.Goals as goal
 

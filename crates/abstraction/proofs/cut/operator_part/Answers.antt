@@ -1,5 +1,5 @@
 -- An effect on the variable is the part, and without one the condition on it is.
-use Rattle.std.proofs.Common.{◌≡◌, get_or, sym, ap, ◌∙◌, subst}
+use Rattle.std.proofs.Common.{get_or, sym, ap, ◌∙◌, subst}
 use Rattle.task.specs.Model.{model, operator}
 use Rattle.abstraction.specs.Parts.{PartOf}
 use Rattle.abstraction.proofs.TaskParts.{part-effect, part-condition}

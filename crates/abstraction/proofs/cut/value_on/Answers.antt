@@ -1,5 +1,5 @@
 -- The facts that are left give the answer until one on the variable is met.
-use Rattle.std.proofs.Common.{◌≡◌, eqb, sym, ◌∙◌, arith}
+use Rattle.std.proofs.Common.{sym, ◌∙◌, arith}
 use Rattle.std.proofs.lemmas.List.{at_drop_more, at_drop_all}
 use Rattle.std.proofs.lemmas.Bool.{eq-eqb, ne_eqb, cond-true, cond-false}
 use Rattle.tables.specs.Records.{zero_entry}

@@ -1,5 +1,5 @@
 -- Each place passed has the operator's part there, and nothing before the operator's parts has changed.
-use Rattle.std.proofs.Common.{◌≡◌, ◌+◌, ◌*◌, ◌≢◌, get_or, ◌∙◌, arith, get_or-set_other}
+use Rattle.std.proofs.Common.{◌+◌, ◌*◌, ◌≢◌, get_or, ◌∙◌, arith, get_or-set_other}
 use Rattle.task.specs.Model.{model, operator}
 use Rattle.abstraction.specs.Parts.{PartOf, untouched}
 use Rattle.abstraction.proofs.Fills.{filled_more}

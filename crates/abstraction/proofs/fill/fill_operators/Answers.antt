@@ -1,5 +1,5 @@
 -- The parts of the operators passed stay, and those of the next one are written.
-use Rattle.std.proofs.Common.{◌≡◌, ◌+◌, ◌*◌, ◌<◌, ◌≤◌, length, get_or, sym, subst, ⊎_elim, arith}
+use Rattle.std.proofs.Common.{◌≡◌, ◌+◌, ◌*◌, ◌<◌, get_or, sym, subst, ⊎_elim, arith}
 use Rattle.std.proofs.lemmas.Bool.{cases_eq}
 use Rattle.task.specs.Model.{model, operator}
 use Rattle.abstraction.specs.Parts.{PartOf, untouched}

@@ -1,5 +1,5 @@
 -- Each place passed has the product of the numbers of values of the later ones.
-use Rattle.std.proofs.Common.{◌≡◌, ◌+◌, min, get_or, drop, ap, ◌∙◌, arith}
+use Rattle.std.proofs.Common.{◌≡◌, ◌+◌, min, drop, ap, ◌∙◌, arith}
 use Rattle.std.proofs.lemmas.List.{take_rest}
 use Rattle.task.specs.Model.{model}
 use Rattle.abstraction.specs.Projected.{sizes}

@@ -1,5 +1,5 @@
 -- The product of the first number of values and the rest's product, both cut, is the whole product, cut.
-use Rattle.std.proofs.Common.{◌≡◌, ◌*◌, ◌<◌, min, length, get_or, sym, ap, ◌∙◌, arith}
+use Rattle.std.proofs.Common.{◌*◌, min, length, sym, ap, ◌∙◌, arith}
 use Rattle.std.specs.List.{between}
 use Rattle.std.proofs.lemmas.Slice.{first_rest}
 use Rattle.task.specs.Model.{model}

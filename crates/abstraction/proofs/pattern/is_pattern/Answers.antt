@@ -1,7 +1,7 @@
 -- Each place passed holds a variable of the task that is above the one before.
-use Rattle.std.proofs.Common.{◌≡◌, ℕ, ◌+◌, ◌<◌, ◌≤◌, length, get_or, MatchBool, subst, arith, below_more}
+use Rattle.std.proofs.Common.{◌<◌, get_or, MatchBool, subst, arith, below_more}
 use lib.ListN.{length-map}
-use Rattle.abstraction.specs.Patterns.{Rises, IsPattern}
+use Rattle.abstraction.specs.Patterns.{Rises}
 use Rattle.abstraction.proofs.pattern.is_pattern.Goals as goal
 
 pub returns-then-pattern-place : goal.returns-then-pattern-place

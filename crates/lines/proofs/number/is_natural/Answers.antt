@@ -1,6 +1,6 @@
-use Rattle.std.proofs.Common.{◌≡◌, Bool, true, false, cond, not, ◌&&◌, eqb, ltb, leb, length, get_or, sym, ◌∙◌, arith, rules}
+use Rattle.std.proofs.Common.{◌≡◌, Bool, true, false, not, ◌&&◌, eqb, length, ◌∙◌, arith, rules}
 use Rattle.std.proofs.lemmas.Bool.Decides.{nat_tests}
-use Rattle.lines.specs.Numbers.{natural, all_digits, needless_zero}
+use Rattle.lines.specs.Numbers.{all_digits, needless_zero}
 use Rattle.lines.proofs.number.is_natural.Goals as goal
 
 not-both : (b c : Bool) → (b && (false && c)) ≡ false

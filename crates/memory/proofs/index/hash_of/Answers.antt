@@ -1,5 +1,5 @@
 -- That the first word is the upper half of the fingerprint, cut to the words.
-use Rattle.std.proofs.Common.{◌/◌, ◌%◌, refl, ap, mod-lt, arith}
+use Rattle.std.proofs.Common.{◌/◌, ◌%◌, ap, mod-lt}
 use Rattle.memory.proofs.index.hash_of.Goals as goal
 
 pub returns : goal.returns

@@ -1,5 +1,4 @@
 -- That the least of the five limits is the capacity.
-use Rattle.std.proofs.Common.{refl}
 use Rattle.memory.proofs.Capacities.{capacity-of}
 use Rattle.memory.proofs.opening.capacity_of.Goals as goal
 

@@ -1,11 +1,10 @@
 -- That the loop generates the operators in order.
-use Rattle.std.proofs.Common.{◌≡◌, ◌+◌, ◌*◌, ◌<◌, ◌≤◌, length, get_or, sym, refl, ap, ◌∙◌, subst, mul-le-mul_right, arith}
-use lib.ListN.{length-map}
-use Rattle.task.specs.Model.{model, prices, dearest, action}
+use Rattle.std.proofs.Common.{◌≡◌, ◌<◌, refl, mul-le-mul_right, arith}
+use Rattle.task.specs.Model.{model, prices, dearest}
 use Rattle.task.proofs.Actions.{dearest-low}
 use Rattle.plain.proofs.Budget.{dearest-le}
 use Rattle.memory.specs.Rows.{nodes_of}
-use Rattle.memory.specs.Steps.{kind_of, NoRoom}
+use Rattle.memory.specs.Steps.{kind_of}
 use Rattle.memory.proofs.Held.{count_of, g-is}
 use Rattle.memory.proofs.Changes.{untouched-same, untouched-both}
 use Rattle.memory.proofs.Tried.{low-generate, one_more, generates-to, full-to}

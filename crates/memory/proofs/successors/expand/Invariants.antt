@@ -1,5 +1,5 @@
 -- What stands when the operators below i were tried.
-use Rattle.std.proofs.Common.{◌≡◌, ◌<◌, ◌≤◌, length}
+use Rattle.std.proofs.Common.{◌≡◌, ◌<◌}
 use Rattle.task.specs.Model.{model}
 use Rattle.plain.specs.Plain.{GeneratesAll}
 use Rattle.memory.specs.Rows.{Consistent, Untouched, nodes_of, state_at}

@@ -1,5 +1,5 @@
 -- What each path of a try comes to.
-use Rattle.std.proofs.Common.{◌≡◌, ◌+◌, ◌<◌, ◌≤◌, true, false, length, get_or, sym, refl, ap, ◌∙◌, subst, true≢false, arith}
+use Rattle.std.proofs.Common.{◌≡◌, ◌+◌, length, get_or, sym, refl, ap, ◌∙◌, true≢false, arith}
 use lib.ListN.{length-map}
 use Rattle.task.specs.Model.{model, prices}
 use Rattle.memory.specs.Rows.{nodes_of, record_at}

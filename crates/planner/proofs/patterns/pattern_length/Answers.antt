@@ -1,5 +1,5 @@
 -- Each turn takes one variable more; past the last, or where one does not fit, no more is taken.
-use Rattle.std.proofs.Common.{◌≡◌, ℕ, ◌+◌, ◌-◌, ◌*◌, ◌<◌, ◌≤◌, length, get_or, drop, ap, ◌∙◌, arith}
+use Rattle.std.proofs.Common.{◌≡◌, ◌+◌, ◌-◌, get_or, drop, ap, ◌∙◌, arith}
 use Rattle.task.specs.Model.{model}
 use Rattle.planner.specs.Patterns.{taken}
 use Rattle.planner.proofs.Taking.{taken-past, taken-stop, taken-turn}

@@ -1,5 +1,5 @@
 -- What is taken is what was counted and what the rest takes.
-use Rattle.std.proofs.Common.{◌≡◌, ℕ, ◌+◌, ◌-◌, ◌≤◌, length, drop}
+use Rattle.std.proofs.Common.{◌≡◌, ◌+◌, ◌-◌, ◌≤◌, length, drop}
 use Rattle.task.specs.Model.{model}
 use Rattle.planner.specs.Patterns.{taken}
 use Rattle.planner.proofs.patterns.pattern_length.Given as goal

@@ -1,11 +1,9 @@
 -- Each advance extends the run, and its ending is what the law says.
-use Rattle.std.proofs.Common.{◌≡◌, ℕ, ◌+◌, ◌-◌, ◌*◌, ◌<◌, ◌≤◌, [], ◌∷◌, sym, refl, ap, ◌∙◌, subst, inl, inr, arith}
+use Rattle.std.proofs.Common.{◌+◌, ◌-◌, ◌*◌, [], ◌∷◌, sym, ap, ◌∙◌, subst, inl}
 use Rattle.task.specs.Model.{model, prices, dearest}
-use Rattle.task.specs.declared.task.Task.{Task}
 use Rattle.task.proofs.Actions.{task-well-formed}
 use Rattle.plain.specs.Plain as plain
 use Rattle.plain.specs.Plain.{Writes, reports}
-use Rattle.plain.specs.Runs.{Run, Reached}
 use Rattle.memory.specs.Steps.{kind_of}
 use Rattle.memory.specs.Plans.{plan_text}
 use Rattle.search.specs.Search.{plain_of, find_of, outcome_of, go_ahead_of}

@@ -1,5 +1,5 @@
 -- An accepted start begins the run; a refused one ends the solving.
-use Rattle.std.proofs.Common.{◌≡◌, sym, ap, subst, inl}
+use Rattle.std.proofs.Common.{sym, ap, subst, inl}
 use Rattle.task.specs.Model.{model}
 use Rattle.plain.specs.Plain.{reports}
 use Rattle.plain.specs.Runs.{Reached}

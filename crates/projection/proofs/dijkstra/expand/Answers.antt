@@ -1,7 +1,7 @@
 -- Each operator passed can lower no entry any more by a step to the rank, unless the rank is queued again.
-use Rattle.std.proofs.Common.{◌≡◌, ℕ, ◌+◌, ◌-◌, ◌<◌, ◌≤◌, List, length, get_or, take, sum, sym, refl, ap, ◌∙◌, subst, arith}
+use Rattle.std.proofs.Common.{ℕ, ◌+◌, ◌-◌, ◌<◌, ◌≤◌, List, length, take, sum, sym, subst, arith}
 use Rattle.task.specs.Model.{applied}
-use Rattle.abstraction.specs.Ranks.{product, rank}
+use Rattle.abstraction.specs.Ranks.{rank}
 use Rattle.queue.specs.declared.Queue.{Queue}
 use Rattle.queue.specs.declared.entries.RankEntry.{RankEntry}
 use Rattle.abstraction.specs.AbstractTasks.{abstract_of, MayLeadTo}

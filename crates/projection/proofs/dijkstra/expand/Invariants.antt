@@ -1,4 +1,4 @@
-use Rattle.std.proofs.Common.{ℕ, ◌+◌, ◌≤◌, sum}
+use Rattle.std.proofs.Common.{◌+◌, ◌≤◌, sum}
 use Rattle.abstraction.specs.AbstractTasks.{abstract_of}
 use Rattle.projection.specs.Dijkstra.{Running, LeftFrom}
 use Rattle.projection.proofs.dijkstra.expand.Given as goal

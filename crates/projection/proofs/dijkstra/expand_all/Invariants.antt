@@ -1,4 +1,4 @@
-use Rattle.std.proofs.Common.{ℕ, ◌+◌, sum}
+use Rattle.std.proofs.Common.{◌+◌, sum}
 use Rattle.abstraction.specs.AbstractTasks.{abstract_of}
 use Rattle.projection.specs.Dijkstra.{Running, NoneLeft}
 use Rattle.projection.proofs.dijkstra.expand_all.Given as goal

@@ -1,5 +1,4 @@
 -- The queue starts empty over memory for each rank.
-use Rattle.std.proofs.Common.{arith}
 use Rattle.projection.proofs.dijkstra.fill_distances.Goals as goal
 
 pub expand_all-requires : goal.expand_all-requires

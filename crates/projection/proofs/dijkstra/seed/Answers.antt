@@ -1,5 +1,5 @@
 -- Each rank passed is queued at 0 if it is a goal state's, and none otherwise.
-use Rattle.std.proofs.Common.{◌≡◌, ℕ, ◌+◌, ◌<◌, ◌≤◌, length, get_or, sym, refl, ap, ◌∙◌, subst, inl, arith}
+use Rattle.std.proofs.Common.{◌≡◌, ℕ, ◌+◌, ◌<◌, length, get_or, sym, ap, ◌∙◌, subst, inl, arith}
 use lib.ListN.{get_or-replicate}
 use Rattle.abstraction.specs.AbstractTasks.{abstract_of}
 use Rattle.projection.proofs.Running.{Seeded, seeded-lower, seeded-skip, seeded-runs, closed, digits-state}

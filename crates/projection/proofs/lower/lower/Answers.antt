@@ -1,5 +1,5 @@
 -- The rank is one that the queue takes, so its entry is queued.
-use Rattle.std.proofs.Common.{◌≡◌, ℕ, ◌+◌, ◌<◌, ◌≤◌, length, get_or, set, sym, refl, ap, ◌∙◌, subst, arith, length-set, get_or-set_same}
+use Rattle.std.proofs.Common.{set, arith, length-set, get_or-set_same}
 use Rattle.queue.specs.declared.entries.RankEntry.{RankEntry}
 use Rattle.queue.specs.Entries.{rank_item}
 use Rattle.queue.proofs.Uses.{put-done}

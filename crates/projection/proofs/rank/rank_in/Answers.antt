@@ -1,5 +1,5 @@
 -- Eight values below 256 times weights of 32 bits stay below 2^64.
-use Rattle.std.proofs.Common.{◌≡◌, ℕ, ◌+◌, ◌*◌, ◌<◌, ◌≤◌, length, get_or, sym, ap, ◌∙◌, mul-le-mul_right, mul-le-mul_left, add-one, arith, w8, w32, Fits, below_more}
+use Rattle.std.proofs.Common.{◌≡◌, ℕ, ◌+◌, ◌*◌, ◌<◌, ◌≤◌, length, get_or, ap, ◌∙◌, mul-le-mul_right, mul-le-mul_left, add-one, arith, w8, w32, Fits, below_more}
 use Rattle.projection.specs.Projection.{weighed}
 use Rattle.projection.proofs.rank.rank_in.Goals as goal
 

@@ -1,5 +1,5 @@
 -- Each value that the place may have before the step is tried, with all that the later places may have.
-use Rattle.std.proofs.Common.{◌≡◌, ℕ, ◌+◌, ◌-◌, ◌*◌, ◌<◌, ◌≤◌, List, length, get_or, drop, sym, refl, ap, ◌∙◌, subst, ⊎_elim, arith}
+use Rattle.std.proofs.Common.{◌≡◌, ℕ, ◌+◌, ◌*◌, ◌<◌, ◌≤◌, List, length, get_or, drop, sym, ap, ◌∙◌, subst, ⊎_elim, arith}
 use Rattle.std.proofs.lemmas.Bool.{cases_eq}
 use Rattle.abstraction.specs.Ranks.{product}
 use Rattle.task.specs.Model.{Admits}
@@ -8,8 +8,8 @@ use Rattle.abstraction.specs.Parts.{or_else, untouched}
 use Rattle.abstraction.specs.AbstractTasks.{abstract_of, Stands}
 use Rattle.abstraction.proofs.Places.{places, number-low}
 use Rattle.abstraction.proofs.Ranks.{product_at, product-end}
-use Rattle.projection.specs.Dijkstra.{Open, Relaxed, StepAt, Preceding}
-use Rattle.projection.proofs.Relaxing.{relaxed-none, relaxed-then, relaxed-wider}
+use Rattle.projection.specs.Dijkstra.{StepAt, Preceding}
+use Rattle.projection.proofs.Relaxing.{relaxed-then, relaxed-wider}
 use Rattle.projection.proofs.Steps.{preceding-end, preceding-only, preceding-cons, preceding-first, scaled}
 use Rattle.projection.proofs.relax.+relax.Goals as goal
 

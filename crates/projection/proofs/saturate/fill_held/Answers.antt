@@ -1,5 +1,5 @@
 -- From prices of 0 each rank raises them, and after the last one they are the held prices.
-use Rattle.std.proofs.Common.{◌≡◌, ℕ, ◌<◌, ◌≤◌, length, get_or, ap, ◌∙◌, arith}
+use Rattle.std.proofs.Common.{length, get_or, ap, ◌∙◌, arith}
 use lib.ListN.{get_or-replicate}
 use Rattle.abstraction.specs.AbstractTasks.{abstract_of}
 use Rattle.projection.proofs.Saturation.{held_start, held_all}

@@ -1,8 +1,8 @@
 -- No held price is above the price offered, so each can be taken off.
-use Rattle.std.proofs.Common.{◌≡◌, ℕ, ◌+◌, ◌-◌, ◌<◌, ◌≤◌, ◌≢◌, length, get_or, set, sym, refl, ap, ◌∙◌, subst, ⊎_elim, arith, get_or-set_other, get_or-set_same}
+use Rattle.std.proofs.Common.{◌≡◌, ◌-◌, ◌<◌, ◌≤◌, ◌≢◌, length, get_or, set, sym, ◌∙◌, subst, ⊎_elim, arith, get_or-set_other, get_or-set_same}
 use Rattle.std.proofs.lemmas.Bool.{cases_eq}
 use Rattle.abstraction.specs.AbstractTasks.{abstract_of}
-use Rattle.abstraction.proofs.Places.{number-low, operators-low}
+use Rattle.abstraction.proofs.Places.{operators-low}
 use Rattle.projection.specs.Distances.{IsHeld}
 use Rattle.projection.proofs.Saturation.{held_low}
 use Rattle.projection.proofs.saturate.saturate.Goals as goal

@@ -1,4 +1,4 @@
-use Rattle.std.proofs.Common.{◌≡◌, ℕ, ◌-◌, ◌<◌, ◌≤◌, length, get_or}
+use Rattle.std.proofs.Common.{◌≡◌, ℕ, ◌-◌, ◌<◌, ◌≤◌, get_or}
 use Rattle.abstraction.specs.AbstractTasks.{abstract_of}
 use Rattle.projection.specs.Distances.{IsHeld}
 use Rattle.projection.proofs.saturate.saturate.Given as goal

@@ -1,7 +1,7 @@
 -- An item without an entry loses none, and any other the one at its place.
-use Rattle.std.proofs.Common.{◌≡◌, ℕ, ◌+◌, eqb, length, get_or, take, None, sym, refl, ap, ◌∙◌, arith}
+use Rattle.std.proofs.Common.{◌≡◌, ◌+◌, eqb, None, refl, ap, ◌∙◌, arith}
 use Rattle.std.specs.Map.{update}
-use Rattle.queue.specs.Content.{held, content, counted}
+use Rattle.queue.specs.Content.{content, counted}
 use Rattle.queue.proofs.Held.{held_none, held-some, element, updated}
 use Rattle.queue.proofs.Queue.drop_item.Goals as goal
 

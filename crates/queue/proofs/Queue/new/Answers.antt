@@ -1,5 +1,5 @@
 -- A queue of no entries holds nothing, whatever its rows hold.
-use Rattle.std.proofs.Common.{◌≡◌, refl, arith}
+use Rattle.std.proofs.Common.{refl, arith}
 use Rattle.queue.specs.Heap.{Indexed}
 use Rattle.queue.proofs.Held.{held_none}
 use Rattle.queue.proofs.Queue.new.Goals as goal

@@ -1,11 +1,10 @@
 -- An entry of a new item goes to the end, any other into the place of its item's entry.
-use Rattle.std.proofs.Common.{◌≡◌, ℕ, ◌+◌, ◌^◌, ◌<◌, length, sym, refl, ap, ◌∙◌, subst, arith}
-use Rattle.std.proofs.lemmas.List.{length-set}
+use Rattle.std.proofs.Common.{◌+◌, ◌^◌, ◌<◌, ap, ◌∙◌, subst, arith}
 use Rattle.queue.specs.Heap.{Room}
-use Rattle.queue.specs.Content.{content, counted}
+use Rattle.queue.specs.Content.{counted}
 use Rattle.queue.specs.Sifting.{Missing, At}
 use Rattle.queue.proofs.Held.{held_none, held-some}
-use Rattle.queue.proofs.Changes.{end-small, indexed-end, ordered_end, held-end, indexed-put, held-put}
+use Rattle.queue.proofs.Changes.{indexed-end, ordered_end, held-end, indexed-put, held-put}
 use Rattle.queue.proofs.Queue.put.Goals as goal
 
 pub refill-requires : goal.refill-requires

@@ -1,5 +1,5 @@
 -- An entry that comes no later than the one it replaces goes up, any other goes down.
-use Rattle.std.proofs.Common.{◌≡◌, ◌<◌, length, set, sym, refl, arith}
+use Rattle.std.proofs.Common.{◌<◌, length, sym, refl, arith}
 use Rattle.std.proofs.lemmas.List.{length-set, get_or_default}
 use Rattle.queue.proofs.Order.{TotalOrder, compared}
 use Rattle.queue.proofs.Changes.{up_at, down-at}

@@ -1,10 +1,9 @@
 -- Without its last entry, or with that in the place of another, the queue holds all but one item's entry.
-use Rattle.std.proofs.Common.{◌≡◌, ℕ, ◌+◌, ◌-◌, ◌<◌, eqb, List, length, get_or, take, set, None, refl, ap, ◌∙◌, subst, arith}
+use Rattle.std.proofs.Common.{◌≡◌, ℕ, ◌+◌, ◌-◌, ◌<◌, eqb, List, length, get_or, take, None, refl, ap, ◌∙◌, subst, arith}
 use Rattle.std.specs.Map.{update}
 use Rattle.std.proofs.lemmas.List.{get_or_default}
 use Rattle.queue.specs.Heap.{Indexed}
 use Rattle.queue.specs.Content.{held}
-use Rattle.queue.proofs.Order.{there}
 use Rattle.queue.proofs.Changes.{indexed-less, held-less, indexed-moved, held_moved}
 use Rattle.queue.proofs.Queue.remove_at.Goals as goal
 

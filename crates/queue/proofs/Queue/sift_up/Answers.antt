@@ -1,5 +1,5 @@
 -- Each turn exchanges the sifted entry with its parent, so that it alone stays out of order.
-use Rattle.std.proofs.Common.{◌≡◌, ◌<◌, true, false, length, get_or, set, sym, refl, ◌∙◌, subst, arith}
+use Rattle.std.proofs.Common.{◌≡◌, ◌<◌, false, length, get_or, set, sym, refl, ◌∙◌, subst, arith}
 use Rattle.std.proofs.lemmas.List.{length-set, get_or-set_same, get_or-set_other, get_or_default}
 use Rattle.queue.specs.Heap.{parent, Indexed, HeapOrdered}
 use Rattle.queue.proofs.Order.{TotalOrder, up_step, up_top, up-end, compared}

@@ -1,5 +1,5 @@
 -- The earlier of the best so far and the next slot is the best with it.
-use Rattle.std.proofs.Common.{◌≡◌, get_or, None, sym, ap, ◌∙◌}
+use Rattle.std.proofs.Common.{get_or, None, sym, ap, ◌∙◌}
 use Rattle.std.proofs.lemmas.List.{take_all}
 use Rattle.std.proofs.lemmas.List.Sums.{fold_more}
 use Rattle.queue_tests.specs.Lists.{earlier_of, least_of}

@@ -1,5 +1,5 @@
 -- That each call extends the run, and that the law holds of it.
-use Rattle.std.proofs.Common.{◌≡◌, ◌<◌, length, get_or, sym, refl, ap, ◌∙◌, subst, arith}
+use Rattle.std.proofs.Common.{get_or, ◌∙◌, subst, arith}
 use Rattle.task.specs.Model.{model}
 use Rattle.search.specs.Replay.{OneCall, no_call}
 use Rattle.memory.specs.Steps.{kind_of}

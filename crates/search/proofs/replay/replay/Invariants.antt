@@ -5,7 +5,7 @@ use Rattle.plain.specs.Plain.{opened}
 use Rattle.plain.specs.Runs.{Run, Reached}
 use Rattle.memory.specs.Steps.{kind_of}
 use Rattle.search.specs.Search.{plain_of}
-use Rattle.search.specs.Replay.{Lent, RunOf}
+use Rattle.search.specs.Replay.{RunOf}
 use Rattle.memory.specs.Plans.{plan_text}
 use Rattle.search.proofs.replay.replay.Given as goal
 

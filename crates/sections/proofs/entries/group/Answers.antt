@@ -1,11 +1,10 @@
-use Rattle.std.proofs.Common.{◌≡◌, ◌+◌, ◌-◌, ◌<◌, ◌≤◌, [], ◌∷◌, ◌++◌, length, take, drop, set, sym, ap, ◌∙◌, arith, rules}
+use Rattle.std.proofs.Common.{◌≡◌, ◌+◌, ◌<◌, ◌≤◌, [], ◌∷◌, ◌++◌, length, take, drop, sym, ◌∙◌, arith}
 use Rattle.std.proofs.lemmas.Result.{err_from_is_err_and}
 use Rattle.std.proofs.lemmas.Bool.{ltb-true}
 use Rattle.std.proofs.lemmas.List.{take_more_set, length-take-le, length-set, drop-append-le}
 use Rattle.lines.specs.Views.{place_of}
 use Rattle.lines.proofs.Turns.{turns_more, turns-all}
 use Rattle.sections.specs.Entries.{entry_more}
-use Rattle.sections.specs.Views.{Marked}
 use Rattle.sections.proofs.entries.group.Goals as goal
 
 pub returns-in_err-found : goal.returns-in_err-found

@@ -1,4 +1,4 @@
-use Rattle.std.proofs.Common.{◌≡◌, ◌+◌, ◌-◌, ◌≤◌, [], length, take}
+use Rattle.std.proofs.Common.{◌≡◌, ◌-◌, ◌≤◌, [], length, take}
 use Rattle.lines.specs.Reading.{turns}
 use Rattle.sections.specs.Operators.{operator_more}
 use Rattle.lines.specs.Views.{place_of}

@@ -1,4 +1,4 @@
-use Rattle.std.proofs.Common.{◌≡◌, ◌+◌, length, get_or, take, drop, set, sym, ◌∙◌, arith, rules}
+use Rattle.std.proofs.Common.{◌+◌, get_or, take, ◌∙◌, arith}
 use Rattle.std.proofs.lemmas.Result.{err_from_is_err_and}
 use Rattle.std.proofs.lemmas.List.{take_more_set, drop-set-lt, at_drop_more, at_drop_all, take_all}
 use Rattle.tables.specs.Records.{zero_variable}

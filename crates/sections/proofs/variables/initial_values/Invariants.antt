@@ -1,4 +1,4 @@
-use Rattle.std.proofs.Common.{◌≡◌, [], length, take, drop}
+use Rattle.std.proofs.Common.{◌≡◌, [], take, drop}
 use Rattle.sections.specs.Variables.{initials_of}
 use Rattle.lines.specs.Views.{place_of}
 use Rattle.sections.proofs.variables.initial_values.Given as goal

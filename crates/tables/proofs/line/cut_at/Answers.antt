@@ -1,8 +1,7 @@
 -- The first separator is where the loop stops.
-use Rattle.std.proofs.Common.{◌≡◌, suc, ◌+◌, ◌<◌, length, take, drop, Some, None, sym, ◌∙◌, add-one, arith, rules}
+use Rattle.std.proofs.Common.{◌<◌, length, add-one, arith, rules}
 use native.Mathlib.Nat.{sub-zero}
 use Rattle.std.proofs.lemmas.List.{take_rest, length-take, length-drop}
-use Rattle.tables.specs.Lines.{cut_at}
 use Rattle.tables.proofs.Cuts.{cut-found, cut-none}
 use Rattle.tables.proofs.line.cut_at.Goals as goal
 

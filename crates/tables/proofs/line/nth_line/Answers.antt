@@ -1,5 +1,5 @@
 -- Each turn passes over one line; where none is left, every further line is empty.
-use Rattle.std.proofs.Common.{◌≡◌, ◌+◌, ◌-◌, sym, refl, ap, ◌∙◌, arith}
+use Rattle.std.proofs.Common.{◌+◌, ◌-◌, sym, ap, ◌∙◌, arith}
 use Rattle.tables.specs.Lines.{after_line, nth_line}
 use Rattle.tables.proofs.NthLines.{nth-empty, nth-more}
 use Rattle.tables.proofs.line.nth_line.Goals as goal

@@ -1,5 +1,5 @@
 -- An operator's entries name variables below 32, as all entries do.
-use Rattle.std.proofs.Common.{◌≡◌, ℕ, ◌+◌, get_or, arith, below_more}
+use Rattle.std.proofs.Common.{◌+◌, get_or, arith, below_more}
 use Rattle.tables.specs.Records.{zero_entry, zero_operator, end_at}
 use Rattle.tables.proofs.Lists.{part_at}
 use Rattle.tables.proofs.rules.operators_distinct.Goals as goal

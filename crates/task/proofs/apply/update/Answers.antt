@@ -1,5 +1,5 @@
 -- Each turn makes the first effect that is left; none is left at the end.
-use Rattle.std.proofs.Common.{◌≡◌, ◌<◌, ◌≤◌, length, drop, sym, ap, ◌∙◌, add-one, arith, drop_of_length-le, drop-cons}
+use Rattle.std.proofs.Common.{◌<◌, ◌≤◌, length, sym, ap, ◌∙◌, add-one, arith, drop_of_length-le, drop-cons}
 use Rattle.tables.specs.Records.{zero_entry}
 use Rattle.task.specs.Model.{updated}
 use Rattle.task.proofs.apply.update.Goals as goal

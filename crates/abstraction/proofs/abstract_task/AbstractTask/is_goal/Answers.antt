@@ -1,5 +1,5 @@
 -- Each place passed has the goal's value.
-use Rattle.std.proofs.Common.{◌≡◌, ℕ, ◌<◌, length, get_or, None, MatchBool, subst, arith, below_more}
+use Rattle.std.proofs.Common.{get_or, None, MatchBool, subst, arith, below_more}
 use Rattle.task.specs.Model.{Admits}
 use Rattle.abstraction.proofs.Places.{places, goal-each, goal-at}
 use Rattle.abstraction.proofs.abstract_task.AbstractTask.is_goal.Goals as goal

@@ -1,5 +1,5 @@
 -- Each place passed may have its value after the operator.
-use Rattle.std.proofs.Common.{◌≡◌, ℕ, ◌+◌, ◌*◌, ◌<◌, ◌≤◌, length, get_or, arith, below_more}
+use Rattle.std.proofs.Common.{◌+◌, ◌*◌, get_or, arith, below_more}
 use Rattle.abstraction.specs.Parts.{untouched, MayFollow}
 use Rattle.abstraction.proofs.Places.{places, number-low}
 use Rattle.abstraction.proofs.abstract_task.AbstractTask.may_lead_to.Goals as goal

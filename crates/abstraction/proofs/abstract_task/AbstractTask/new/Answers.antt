@@ -1,9 +1,9 @@
 -- The parts at the pattern's variables are the parts, at their places, of what is cut down.
-use Rattle.std.proofs.Common.{◌≡◌, ℕ, ◌+◌, ◌*◌, ◌<◌, ◌≤◌, min, map, length, get_or, drop, None, sym, refl, ap, ◌∙◌, subst, arith}
+use Rattle.std.proofs.Common.{ℕ, ◌+◌, ◌*◌, ◌<◌, length, get_or, None, sym, refl, ◌∙◌, subst, arith}
 use lib.ListN.{length-map}
 use Rattle.std.proofs.lemmas.List.{get_or-map}
 use Rattle.task.specs.Model.{model, operator, action}
-use Rattle.abstraction.specs.Projected.{sizes, projected, cut_action}
+use Rattle.abstraction.specs.Projected.{sizes, cut_action}
 use Rattle.abstraction.specs.Parts.{untouched, PartOf}
 use Rattle.abstraction.specs.Lawful.Cutting.{sorted, part_cut, goal-cut}
 use Rattle.abstraction.specs.Lawful.Projecting.{operator-cut}

@@ -1,6 +1,5 @@
 -- Each digit is the quotient by the weight of its place, and what is left is the rank of the later places.
-use Rattle.std.proofs.Common.{◌≡◌, ℕ, ◌+◌, ◌/◌, ◌%◌, ◌<◌, ◌≤◌, length, get_or, take, drop, set, sym, refl, ap, ◌∙◌, subst, arith, length-set, length-take, get_or-take}
-use Rattle.abstraction.specs.Ranks.{product, rank}
+use Rattle.std.proofs.Common.{◌≡◌, ◌/◌, ◌<◌, length, get_or, take, sym, ◌∙◌, subst, arith, length-set, length-take, get_or-take}
 use Rattle.abstraction.specs.AbstractTasks.{abstract_of}
 use Rattle.abstraction.proofs.Fills.{filled-more-0}
 use Rattle.abstraction.proofs.Places.{places, domain-low, digit-of}

@@ -1,8 +1,7 @@
 -- Each place passed has the value that the operator requires, and the rank is that of what it leads to, as far as they show.
-use Rattle.std.proofs.Common.{◌≡◌, ℕ, ◌+◌, ◌*◌, ◌<◌, ◌≤◌, length, get_or, drop, MatchBool, sym, ap, ◌∙◌, subst, ap₂, arith, below_more}
-use Rattle.task.specs.Model.{Admits, applied}
+use Rattle.std.proofs.Common.{◌+◌, ◌*◌, get_or, MatchBool, sym, ◌∙◌, subst, arith, below_more}
+use Rattle.task.specs.Model.{Admits}
 use Rattle.abstraction.specs.Parts.{untouched}
-use Rattle.abstraction.specs.Ranks.{product, rank}
 use Rattle.abstraction.specs.AbstractTasks.{abstract_of}
 use Rattle.abstraction.proofs.Places.{places, number-low, applied-state, applies-each, applies-at, rank_step}
 use Rattle.abstraction.proofs.Ranks.{rank-lead}

@@ -1,5 +1,5 @@
 -- Each way out of a set of the partition is one of the four that its relation has.
-use Rattle.std.proofs.Common.{◌≡◌, length, take, Ok, Err, sym, refl, ap, ◌∙◌, rules}
+use Rattle.std.proofs.Common.{◌≡◌, length, Err, refl, ap, ◌∙◌, rules}
 use Rattle.std.proofs.lemmas.Result.{err_from_is_err_and}
 use Rattle.layers.specs.Partition.{no_offer, first_refuses, second_refuses, takes}
 use Rattle.layers.proofs.Kept.{brought-back}

@@ -1,5 +1,5 @@
 -- The row that is left is the lesser of the two rows, operator by operator.
-use Rattle.std.proofs.Common.{◌≡◌, ◌<◌, ◌≤◌, min, length, get_or, take, sym, refl, ap, ◌∙◌, arith, length-take, get_or-take, ext_get_or, rules}
+use Rattle.std.proofs.Common.{◌≡◌, ◌<◌, ◌≤◌, min, length, get_or, take, sym, refl, ap, ◌∙◌, arith, get_or-take, ext_get_or, rules}
 use Rattle.estimator.specs.Lawful.Rows.{length-joined, get_or-joined}
 use Rattle.layers.proofs.price_table.PriceTable.leave_lesser.Goals as goal
 

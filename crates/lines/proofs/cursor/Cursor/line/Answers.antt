@@ -1,4 +1,3 @@
-use Rattle.std.proofs.Common.{arith, rules}
 use Rattle.lines.specs.Reading.{line_of}
 use Rattle.lines.proofs.cursor.Cursor.line.Goals as goal
 

@@ -1,6 +1,6 @@
-use Rattle.std.proofs.Common.{◌≡◌, true, false, ◌&&◌, leb, length, arith, rules}
+use Rattle.std.proofs.Common.{◌≡◌, true, false, leb, length, arith}
 use Rattle.std.proofs.lemmas.Bool.Decides.{nat_tests}
-use Rattle.lines.specs.Numbers.{number_of, natural, all_digits}
+use Rattle.lines.specs.Numbers.{number_of, all_digits}
 use Rattle.lines.proofs.number.Number.parse.Goals as goal
 
 pub returns-then-same : goal.returns-then-same

@@ -1,5 +1,5 @@
 -- That a node is added, and nothing beyond it is touched.
-use Rattle.std.proofs.Common.{◌≡◌, ◌+◌, ◌*◌, ◌<◌, ◌≤◌, sym, refl, ap, ◌∙◌, subst, mul-le-mul_right, arith}
+use Rattle.std.proofs.Common.{◌<◌, refl, mul-le-mul_right, arith}
 use Rattle.memory.proofs.Changes.{Added, add_done, add-untouched}
 use Rattle.memory.proofs.memory.Memory.add.Goals as goal
 

@@ -1,5 +1,5 @@
 -- That the goal is asked of the bytes of the node.
-use Rattle.std.proofs.Common.{◌≡◌, ◌+◌, ◌-◌, ◌*◌, ◌<◌, ◌≤◌, take, drop, sym, ap, ◌∙◌, mul-le-mul_right, arith}
+use Rattle.std.proofs.Common.{◌*◌, ◌<◌, take, drop, sym, ap, ◌∙◌, mul-le-mul_right, arith}
 use lib.ListN.{length-map}
 use Rattle.task.specs.Model.{model}
 use Rattle.memory.proofs.Tables.{goal-of, slice-width}

@@ -1,5 +1,5 @@
 -- That the entry put is the one of the node.
-use Rattle.std.proofs.Common.{◌≡◌, ◌+◌, ◌<◌, Some, sym, refl, ap, ◌∙◌, subst, arith}
+use Rattle.std.proofs.Common.{◌≡◌, ◌+◌, Some, refl, subst, arith}
 use Rattle.queue.proofs.Uses.{put-done}
 use Rattle.queue.specs.Content.{Takes}
 use Rattle.queue.specs.Entries.{search_item}

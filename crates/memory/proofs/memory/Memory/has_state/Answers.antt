@@ -1,5 +1,5 @@
 -- That the bytes compared are those of the node.
-use Rattle.std.proofs.Common.{ℕ, ◌+◌, ◌-◌, ◌*◌, ◌<◌, ◌≤◌, length, drop, mul-le-mul_right, arith}
+use Rattle.std.proofs.Common.{◌+◌, ◌-◌, ◌*◌, ◌<◌, drop, mul-le-mul_right, arith}
 use Rattle.std.proofs.lemmas.Slice.Eq.{slice_eq-Decides}
 use Rattle.memory.proofs.Tables.{decided}
 use Rattle.memory.proofs.memory.Memory.has_state.Goals as goal

@@ -1,5 +1,5 @@
 -- That a held node gets another record, and its entry of the open list follows.
-use Rattle.std.proofs.Common.{◌≡◌, ◌+◌, ◌<◌, ◌≤◌, Some, None, sym, refl, ap, ◌∙◌, subst, arith}
+use Rattle.std.proofs.Common.{◌≡◌, ◌+◌, Some, None, sym, refl, ap, ◌∙◌, subst, arith}
 use lib.ListN as lib
 use Rattle.queue.proofs.Uses.{put-done}
 use Rattle.queue.specs.Content.{Takes}

@@ -1,5 +1,5 @@
 -- That one line's length more is counted in each round, and that node 0 is met before the rounds end.
-use Rattle.std.proofs.Common.{◌≡◌, ◌+◌, ◌*◌, ◌^◌, ◌<◌, ◌≤◌, [], ◌∷◌, length, sym, refl, ap, ◌∙◌, subst, arith}
+use Rattle.std.proofs.Common.{◌≡◌, ◌<◌, [], ◌∷◌, length, refl, ap, subst, arith}
 use Rattle.task.specs.Names.{operator_name}
 use Rattle.plain.specs.Plain as plain
 use Rattle.memory.specs.Rows.{nodes_of, record_at}

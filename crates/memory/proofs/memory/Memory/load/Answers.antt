@@ -1,5 +1,5 @@
 -- That the bytes of a held node lie inside the state bytes.
-use Rattle.std.proofs.Common.{◌≡◌, ◌+◌, ◌-◌, ◌*◌, ◌<◌, ◌≤◌, take, drop, ap, ◌∙◌, mul-le-mul_right, arith}
+use Rattle.std.proofs.Common.{◌<◌, mul-le-mul_right, arith}
 use Rattle.memory.proofs.memory.Memory.load.Goals as goal
 
 pub slice_bounds-copy_from_slice-end : goal.slice_bounds-copy_from_slice-end

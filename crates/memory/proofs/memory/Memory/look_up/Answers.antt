@@ -1,5 +1,5 @@
 -- That a state met is held, and one not met before a free word is not.
-use Rattle.std.proofs.Common.{◌≡◌, ℕ, ◌+◌, ◌-◌, ◌%◌, ◌<◌, ◌≤◌, ◌≢◌, length, get_or, sym, refl, ap, ◌∙◌, subst, inl, inr, mod-lt, arith, below_more}
+use Rattle.std.proofs.Common.{◌≡◌, ◌+◌, ◌-◌, ◌%◌, ◌≢◌, length, get_or, sym, ap, ◌∙◌, subst, inl, inr, mod-lt, arith, below_more}
 use Rattle.memory.specs.Index.{hash, word_at}
 use Rattle.memory.specs.Rows.{state_at}
 use Rattle.memory.proofs.Held.{not-held, held_at}

@@ -1,5 +1,5 @@
 -- That an empty memory is consistent.
-use Rattle.std.proofs.Common.{◌≡◌, ◌*◌, ◌≤◌, length, sym, refl, ap, ◌∙◌, subst, arith}
+use Rattle.std.proofs.Common.{◌≤◌, length, sym, refl, subst, arith}
 use Rattle.memory.proofs.Words.{indexed-none}
 use Rattle.memory.proofs.Changes.{some-none}
 use Rattle.memory.proofs.memory.Memory.open.Goals as goal

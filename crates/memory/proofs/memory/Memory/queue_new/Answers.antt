@@ -1,11 +1,10 @@
 -- That without an estimate the node stays out of the open list.
-use Rattle.std.proofs.Common.{◌≡◌, Some, None, sym, refl, ap, ◌∙◌, subst, arith}
+use Rattle.std.proofs.Common.{sym, refl, ap, ◌∙◌}
 use lib.ListN as lib
 use Rattle.plain.specs.Plain as plain
 use Rattle.memory.specs.Rows.{nodes_of, queued_with}
 use Rattle.memory.proofs.Tables.{set_same}
 use Rattle.memory.proofs.Changes.{untouched-same}
-use Rattle.memory.proofs.Held.{count_of}
 use Rattle.memory.proofs.memory.Memory.queue_new.Goals as goal
 
 pub returns-in-None : goal.returns-in-None

@@ -1,5 +1,5 @@
 -- That the queue's first entry is the least of the open list.
-use Rattle.std.proofs.Common.{◌≡◌, sym, refl, ap, ◌∙◌, subst}
+use Rattle.std.proofs.Common.{refl}
 use Rattle.memory.proofs.Changes.{Kept, kept-untouched, taken-done}
 use Rattle.memory.proofs.memory.Memory.take_least.Goals as goal
 

@@ -1,6 +1,5 @@
 -- The tests are those of the rules in their order, and past them all is computed.
-use Rattle.std.proofs.Common.{◌≡◌, ℕ, ◌+◌, ◌<◌, ◌≤◌, min, length, get_or, sym, refl, ap, ◌∙◌, subst, arith}
-use Rattle.task.specs.Model.{model}
+use Rattle.std.proofs.Common.{◌≡◌, length, refl, arith}
 use Rattle.task.proofs.Actions.{task-well-formed}
 use Rattle.projection.specs.Projection.{takes}
 use Rattle.projection.proofs.projection.ProjectionEstimator.set.Goals as goal

@@ -1,5 +1,5 @@
 -- That each way out of an advance is one of the plain search's.
-use Rattle.std.proofs.Common.{◌≡◌, length, sym, refl, ap, ◌∙◌, subst, arith}
+use Rattle.std.proofs.Common.{sym, refl, ◌∙◌, subst}
 use lib.ListN.{length-map}
 use Rattle.task.specs.Model.{model}
 use Rattle.search.specs.declared.core.Status.TheVariants.{Running}

@@ -1,5 +1,5 @@
 -- That the loop makes the plain search's expansions until one ends the search.
-use Rattle.std.proofs.Common.{◌≡◌, ◌+◌, ◌<◌, ◌≤◌, sym, refl, ap, ◌∙◌, subst, arith}
+use Rattle.std.proofs.Common.{◌≡◌, sym, refl, ◌∙◌, subst, arith}
 use Rattle.task.specs.Model.{model}
 use Rattle.plain.specs.Plain.{Expansions}
 use Rattle.search.specs.declared.core.Event.TheVariants.{Expanded}

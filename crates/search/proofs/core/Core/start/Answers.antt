@@ -1,13 +1,13 @@
 -- That each way out of a start is one of the plain search's.
-use Rattle.std.proofs.Common.{◌≡◌, ◌+◌, ◌<◌, ◌≤◌, true, false, List, length, Ok, Err, sym, refl, ap, ◌∙◌, subst, arith}
+use Rattle.std.proofs.Common.{◌<◌, false, Ok, Err, sym, refl, ap, ◌∙◌, subst, arith}
 use lib.ListN.{length-map}
-use Rattle.task.specs.Model.{model, prices, action}
+use Rattle.task.specs.Model.{model}
 use Rattle.plain.specs.declared.fault.Fault.TheVariants.{Set}
 use Rattle.plain.specs.Plain as plain
 use Rattle.plain.specs.Plain.{Plain, reports, Starts.not_fresh, Starts.no_capacity, Starts.wrong_row, Starts.refused_set, Starts.begins}
-use Rattle.search.specs.declared.core.Status.TheVariants.{Fresh, Running}
+use Rattle.search.specs.declared.core.Status.TheVariants.{Fresh}
 use Rattle.memory.specs.Rows.{nodes_of}
-use Rattle.memory.specs.Steps.{kind_of, WithinLimits}
+use Rattle.memory.specs.Steps.{WithinLimits}
 use Rattle.search.specs.Search.{plain_of, status_of}
 use Rattle.memory.proofs.Tables.{front_length}
 use Rattle.memory.proofs.Changes.{untouched-same}

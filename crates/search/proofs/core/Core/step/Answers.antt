@@ -1,5 +1,5 @@
 -- That one step is an expansion, an ending at a goal, an empty open list or an overflow.
-use Rattle.std.proofs.Common.{◌≡◌, ◌+◌, ◌<◌, ◌≤◌, List, length, sym, refl, ap, ◌∙◌, subst, arith}
+use Rattle.std.proofs.Common.{◌+◌, ◌<◌, List, sym, refl, ap, ◌∙◌, subst, arith}
 use Rattle.task.specs.Model.{model, IsGoal}
 use Rattle.task.proofs.Actions.{dearest-low}
 use Rattle.memory.specs.Rows.{nodes_of, Untouched}

@@ -1,6 +1,5 @@
 -- That a writing tests its find, then the buffer, and writes the plan's text.
-use Rattle.std.proofs.Common.{◌≡◌, ◌+◌, ◌-◌, ◌^◌, ◌<◌, ◌≤◌, false, ◌++◌, length, drop, sym, refl, ap, ◌∙◌, subst, arith}
-use Rattle.std.proofs.lemmas.Fmt.{length-decimal-le}
+use Rattle.std.proofs.Common.{◌≡◌, false, ◌++◌, length, drop, sym, refl, ap, ◌∙◌, subst, arith}
 use Rattle.task.specs.Model.{model}
 use Rattle.task.specs.Names.{operator_name}
 use Rattle.tables.specs.declared.cause.Cause.TheVariants as cause
@@ -8,7 +7,7 @@ use Rattle.plain.specs.Plain as plain
 use Rattle.plain.specs.Plain.{reports, Writes.other, Writes.short, Writes.writes}
 use Rattle.plain.proofs.Whole.{path-one}
 use Rattle.search.specs.declared.core.Status.TheVariants.{Found}
-use Rattle.memory.specs.Rows.{nodes_of, record_at}
+use Rattle.memory.specs.Rows.{nodes_of}
 use Rattle.memory.specs.Plans.{lines, plan_text}
 use Rattle.memory.proofs.Held.{g-is}
 use Rattle.memory.proofs.Lining.{text-length, whole-text}

@@ -1,5 +1,5 @@
 -- That an advance keeps what the ghost field says.
-use Rattle.std.proofs.Common.{◌≡◌, refl}
+use Rattle.std.proofs.Common.{refl}
 use Rattle.search.proofs.Props.{valid-out}
 use Rattle.search.proofs.search.Search.advance.Goals as goal
 

@@ -1,5 +1,5 @@
 -- That each call given as data is the plain search's call, answered as the reply says.
-use Rattle.std.proofs.Common.{◌≡◌, ℕ, false, List, [], sym, refl, ap, ◌∙◌, subst}
+use Rattle.std.proofs.Common.{ℕ, false, List, [], sym, refl, subst}
 use Rattle.task.specs.Model.{model}
 use Rattle.plain.specs.Plain as plain
 use Rattle.plain.specs.Plain.{reports}

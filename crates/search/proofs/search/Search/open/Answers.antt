@@ -1,5 +1,5 @@
 -- That a search just opened is valid and stands for the plain one.
-use Rattle.std.proofs.Common.{◌≡◌, length, sym, refl, ap, ◌∙◌, subst}
+use Rattle.std.proofs.Common.{length, sym, refl, ◌∙◌, subst}
 use Rattle.memory.specs.Capacity.{Capacity}
 use lib.ListN.{length-map}
 use Rattle.plain.specs.Plain as plain

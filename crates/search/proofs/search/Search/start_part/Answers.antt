@@ -1,5 +1,5 @@
 -- That a start with a part of the row is the plain search's start with that part.
-use Rattle.std.proofs.Common.{◌≡◌, ℕ, List, sym, refl, ap, ◌∙◌, subst, arith}
+use Rattle.std.proofs.Common.{refl, subst, arith}
 use Rattle.task.specs.Model.{model}
 use Rattle.plain.specs.Plain as plain
 use Rattle.plain.specs.Plain.{reports}

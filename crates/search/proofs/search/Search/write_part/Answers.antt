@@ -1,5 +1,5 @@
 -- That a writing into a part of the buffer is the plain search's writing into that part.
-use Rattle.std.proofs.Common.{◌≡◌, ℕ, false, List, Ok, Err, Result, sym, refl, ap, ◌∙◌, subst, arith}
+use Rattle.std.proofs.Common.{◌≡◌, ℕ, false, List, Ok, Err, Result, sym, ap, ◌∙◌, subst, arith}
 use Rattle.tables.specs.declared.cause.Cause.{Cause}
 use Rattle.plain.specs.Plain as plain
 use Rattle.memory.specs.Plans.{plan_text}

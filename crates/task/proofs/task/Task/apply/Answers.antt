@@ -1,6 +1,6 @@
 -- A state is a row of one byte a variable; operators lead from states to states.
-use Rattle.std.proofs.Common.{◌≡◌, ℕ, Bool, true, false, List, length, sym, refl}
-use Rattle.task.specs.Model.{Model, IsState, Applies, applied, WellFormed}
+use Rattle.std.proofs.Common.{ℕ, Bool, true, false, List, refl}
+use Rattle.task.specs.Model.{Model, IsState, WellFormed}
 use Rattle.task.specs.Answers.{MovedRow, MovedState}
 use Rattle.task.proofs.Actions.{task-well-formed}
 use Rattle.task.proofs.task.Task.apply.Goals as goal

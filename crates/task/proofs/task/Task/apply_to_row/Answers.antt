@@ -1,5 +1,5 @@
 -- The operator's own entries decide whether it applies, and make the change.
-use Rattle.std.proofs.Common.{◌≡◌, ◌<◌, ◌≤◌, length, get_or, sym, refl, ap, ◌∙◌, arith}
+use Rattle.std.proofs.Common.{length, get_or, refl, arith}
 use lib.ListN.{length-map}
 use Rattle.tables.specs.Records.{zero_operator, effects_at, end_at}
 use Rattle.task.specs.Model.{action, Applies, applied}

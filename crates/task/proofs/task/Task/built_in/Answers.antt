@@ -1,5 +1,5 @@
 -- The built_in task keeps the rules: it has one variable, and nothing else.
-use Rattle.std.proofs.Common.{ℕ, zero, suc, [], ◌∷◌, refl, le_of_suc-le-suc, not-suc-le-zero, arith, lit<, lit≤}
+use Rattle.std.proofs.Common.{zero, suc, [], ◌∷◌, le_of_suc-le-suc, not-suc-le-zero, lit≤}
 use Rattle.tables.specs.Records.{zero_span}
 use Rattle.tables.specs.Rules.{VariablesFit}
 use Rattle.task.proofs.task.Task.built_in.Goals as goal

@@ -1,5 +1,5 @@
 -- The goal facts are tested in a row of one byte a variable.
-use Rattle.std.proofs.Common.{◌≡◌, Bool, true, false, length, MatchBool, sym, ◌∙◌, arith}
+use Rattle.std.proofs.Common.{Bool, true, false, MatchBool, sym, ◌∙◌, arith}
 use lib.ListN.{length-map}
 use Rattle.task.specs.Model.{IsGoal}
 use Rattle.task.proofs.task.Task.has_goal.Goals as goal

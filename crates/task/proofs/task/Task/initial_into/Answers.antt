@@ -1,5 +1,5 @@
 -- The row is as long as the initial state, and agrees with it at every place.
-use Rattle.std.proofs.Common.{◌≡◌, sym, refl, ◌∙◌, arith}
+use Rattle.std.proofs.Common.{sym, refl, ◌∙◌, arith}
 use lib.ListN.{length-map}
 use Rattle.tables.proofs.Lists.{same-list, initial-at}
 use Rattle.task.proofs.task.Task.initial_into.Goals as goal

@@ -1,5 +1,5 @@
 -- A row of the right length whose values all lie in their domains is a state; any other is not.
-use Rattle.std.proofs.Common.{◌≡◌, ℕ, ◌+◌, ◌<◌, ◌≤◌, length, get_or, sym, refl, ap, ◌∙◌, arith, below_more}
+use Rattle.std.proofs.Common.{sym, ◌∙◌, arith, below_more}
 use lib.ListN.{length-map}
 use Rattle.tables.proofs.Lists.{domain-at}
 use Rattle.task.proofs.task.Task.is_state.Goals as goal

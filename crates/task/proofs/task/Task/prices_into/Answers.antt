@@ -1,5 +1,5 @@
 -- The row is as long as the price row, and agrees with it at every place.
-use Rattle.std.proofs.Common.{◌≡◌, sym, refl, ◌∙◌, arith}
+use Rattle.std.proofs.Common.{sym, refl, ◌∙◌, arith}
 use Rattle.tables.proofs.Lists.{same-list}
 use Rattle.task.proofs.Actions.{price-at, prices-length}
 use Rattle.task.proofs.task.Task.prices_into.Goals as goal

@@ -1,7 +1,6 @@
 -- The records that were tested are the task's.
-use Rattle.std.proofs.Common.{◌≡◌, length, take, sym, refl, ap, ◌∙◌, arith}
+use Rattle.std.proofs.Common.{refl, arith}
 use native.Mathlib.Nat.{sub-zero}
-use Rattle.task.specs.Making.{Accepts, MadeOf}
 use Rattle.task.proofs.task.Task.put.Goals as goal
 
 pub invariant_of-self : goal.invariant_of-self

@@ -1,7 +1,7 @@
 -- One operator more is taken at each turn; the first that does not apply ends it.
-use Rattle.std.proofs.Common.{◌≡◌, ℕ, ◌+◌, ◌<◌, min, [], ◌∷◌, length, get_or, take, sym, refl, ap, ◌∙◌, arith}
+use Rattle.std.proofs.Common.{◌≡◌, ◌+◌, min, length, get_or, take, sym, ◌∙◌, arith}
 use Rattle.std.proofs.lemmas.List.{take_more}
-use Rattle.task.specs.Model.{model, prices, Leads, IsState, cost, Cost}
+use Rattle.task.specs.Model.{model, prices, cost}
 use Rattle.task.proofs.Walks.{leads-more, cost-more, no_steps, cut_sum}
 use Rattle.task.proofs.task.Task.take_steps.Goals as goal
 

@@ -1,5 +1,5 @@
 -- The operators before the index lead to the row at their cost.
-use Rattle.std.proofs.Common.{◌≡◌, ℕ, ◌-◌, ◌^◌, min, take}
+use Rattle.std.proofs.Common.{◌≡◌, ◌-◌, ◌^◌, min, take}
 use Rattle.task.specs.Model.{model, IsState, Leads, cost}
 use Rattle.task.proofs.task.Task.take_steps.Given as goal
 

@@ -1,5 +1,5 @@
 -- The model has one domain a variable record.
-use Rattle.std.proofs.Common.{sym, arith}
+use Rattle.std.proofs.Common.{sym}
 use lib.ListN.{length-map}
 use Rattle.task.proofs.task.Task.variable_count.Goals as goal
 
