@@ -138,19 +138,19 @@ queued-some : (o : Option SearchEntry) (j : ℕ) → queued_of o ≡ Some j → 
 queued-some None j e = absurd (let z : ◌≡◌ {A = ℕ} 0 1 = cc in omega arith)
 queued-some (Some y) j e = (y, refl, cc)
 
--- a queued_with node has an entry in the open list
+-- a queued node has an entry in the open list
 pub queued-entry : (m : Memory) → Consistent m → (k h : ℕ) → plain.Queued (nodes_of m) k h → (y : SearchEntry) × (content search_item m.queue k ≡ Some y) × (y.estimate ≡ h) × EntryFor m k y
 queued-entry m consistent k h w =
     let l : k < m.held = omega (arith, w.0, count_of m) in
     let o = queued-some (content search_item m.queue k) h (sym (ap (λ z. z.queued) (node-is m k l)) ∙ w.1) in
     (o.0, o.1, o.2, consistent.agrees k o.0 o.1)
 
-pub engenerate-queued : (m : Memory) (k : ℕ) (e : SearchEntry) → k < m.held → content search_item m.queue k ≡ Some e → plain.Queued (nodes_of m) k e.estimate
-engenerate-queued m k e l q = (omega (arith, count_of m), ap (λ z. z.queued) (node-is m k l) ∙ ap queued_of q)
+pub entry-queued : (m : Memory) (k : ℕ) (e : SearchEntry) → k < m.held → content search_item m.queue k ≡ Some e → plain.Queued (nodes_of m) k e.estimate
+entry-queued m k e l q = (omega (arith, count_of m), ap (λ z. z.queued) (node-is m k l) ∙ ap queued_of q)
 
 pub first-least : (m : Memory) → Consistent m → (e : SearchEntry) → First search_item search_no_later m.queue e → plain.Least (nodes_of m) e.node e.estimate
 first-least m consistent e f = record {
-  in_queue = engenerate-queued m e.node e o.inside f.here;
+  in_queue = entry-queued m e.node e o.inside f.here;
   first = λ k j w.
       let y = queued-entry m consistent k j w in
       let b = le-before e y.0 (f.least k y.0 y.1) in

@@ -14,14 +14,14 @@ use Rattle.memory.specs.Steps.{NoRoom, CostsBounded, WithinLimits}
 use Rattle.memory.proofs.Tables.{set_twice, set_last}
 use Rattle.memory.proofs.Held.{count_of, state-is, g-is}
 
--- a node is renewed, and then in_queue
+-- a node is renewed, and then queued
 pub renew-settle : (ns ms ks : List plain.Node) (k g x i : ℕ) (o : Option ℕ) → k < length ns → ms ≡ set ns k (plain.new_node (plain.node ns k).state g x i None) →
     ks ≡ set ms k (queued_with (plain.node ms k) o) → ks ≡ set ns k (plain.new_node (plain.node ns k).state g x i o)
 renew-settle ns ms ks k g x i o l p q =
     let n₀ = plain.new_node (plain.node ns k).state g x i None in
     q ∙ ap (λ z. set z k (queued_with (plain.node z k) o)) p ∙ ap (λ v. set (set ns k n₀) k (queued_with v o)) (get_or-set_same ns k n₀ plain.no_node l) ∙ set_twice ns k n₀ (queued_with n₀ o)
 
--- a node is added, and then in_queue
+-- a node is added, and then queued
 pub add-settle : (ns ms ks : List plain.Node) (k : ℕ) (s : List ℕ) (g x i : ℕ) (o : Option ℕ) → k ≡ length ns → ms ≡ ns ++ plain.new_node s g x i None ∷ [] →
     ks ≡ set ms k (queued_with (plain.node ms k) o) → ks ≡ ns ++ plain.new_node s g x i o ∷ []
 add-settle ns ms ks k s g x i o e p q =
@@ -29,7 +29,7 @@ add-settle ns ms ks k s g x i o e p q =
     q ∙ ap (λ j. set ms j (queued_with (plain.node ms j) o)) e ∙ ap (λ z. set z (length ns) (queued_with (plain.node z (length ns)) o)) p ∙
     ap (λ v. set (ns ++ n₀ ∷ []) (length ns) (queued_with v o)) (get_or-append_seam ns n₀ [] plain.no_node) ∙ set_last ns n₀ (queued_with n₀ o)
 
--- it does not queued before that
+-- it is not queued before that
 pub renew-idle : (ns ms : List plain.Node) (k g x i : ℕ) → k < length ns → ms ≡ set ns k (plain.new_node (plain.node ns k).state g x i None) → (plain.node ms k).queued ≡ None
 renew-idle ns ms k g x i l p = ap (λ z. (plain.node z k).queued) p ∙ ap (λ v. v.queued) (get_or-set_same ns k _ plain.no_node l)
 

@@ -1,7 +1,7 @@
 // Changes of the memory, each as one change of the row of nodes.
 ghost use Rattle.std.specs.Prelude.{◌≡◌, ℕ, ◌+◌, ◌*◌, ◌<◌, ◌≤◌, List, [], ◌∷◌, ◌++◌, length, Some as Given, None as Absent, MatchBool, MatchOption, slice_index, slice_set};
 ghost use Rattle.task.specs.Model.{model, IsGoal};
-ghost use Rattle.plain.specs.Plain.{new_node, node as nodeAt, Least, Queued};
+ghost use Rattle.plain.specs.Plain.{new_node, node as node_at, Least, Queued};
 ghost use Rattle.memory.specs.Index.{Vacant};
 ghost use Rattle.memory.specs.Rows.{Consistent, Untouched, nodes_of, state_at, queued_with, TakenFirst};
 
@@ -38,7 +38,7 @@ impl<'a> Memory<'a> {
         ensures consistent { Consistent self.new }
         ensures untouched { Untouched self.old self.new }
         ensures held { self.new.held ≡ self.old.held }
-        ensures nodes { nodes_of self.new ≡ slice_set (nodes_of self.old) node (new_node (nodeAt (nodes_of self.old) node).state new.g new.parent new.operator estimate) }
+        ensures nodes { nodes_of self.new ≡ slice_set (nodes_of self.old) node (new_node (node_at (nodes_of self.old) node).state new.g new.parent new.operator estimate) }
     {
         reopen(self.nodes, node, new);
         match estimate {
@@ -65,7 +65,7 @@ impl<'a> Memory<'a> {
         ensures consistent { Consistent self.new }
         ensures untouched { Untouched self.old self.new }
         ensures held { self.new.held ≡ self.old.held }
-        ensures nodes { nodes_of self.new ≡ slice_set (nodes_of self.old) node (queued_with (nodeAt (nodes_of self.old) node) (Given number)) }
+        ensures nodes { nodes_of self.new ≡ slice_set (nodes_of self.old) node (queued_with (node_at (nodes_of self.old) node) (Given number)) }
     {
         let f = self.nodes[node].g as u64 + number as u64;
         let _ = self.queue.put(SearchEntry {
@@ -79,11 +79,11 @@ impl<'a> Memory<'a> {
     pub fn queue_new(&mut self, node: usize, estimate: Option<u32>)
         requires consistent { Consistent self.old }
         requires inside { node < self.old.held }
-        requires idle { (nodeAt (nodes_of self.old) node).queued ≡ Absent }
+        requires idle { (node_at (nodes_of self.old) node).queued ≡ Absent }
         ensures consistent { Consistent self.new }
         ensures untouched { Untouched self.old self.new }
         ensures held { self.new.held ≡ self.old.held }
-        ensures nodes { nodes_of self.new ≡ slice_set (nodes_of self.old) node (queued_with (nodeAt (nodes_of self.old) node) estimate) }
+        ensures nodes { nodes_of self.new ≡ slice_set (nodes_of self.old) node (queued_with (node_at (nodes_of self.old) node) estimate) }
     {
         match estimate {
             Some(number) => {

@@ -6,7 +6,7 @@ use Rattle.plain.proofs.Placed.{Placed}
 use Rattle.plain.proofs.Paths.{ComesFrom, path-new, path-again}
 use Rattle.plain.proofs.Splits.{same_or_not}
 
--- an estimate that is all_left: no plan costs less, and where there is none, there is no plan
+-- an estimate that is admissible: no plan costs less, and where there is none, there is no plan
 abbrev pub AdmissibleAt : Model → List ℕ → Option ℕ → Type 0
 AdmissibleAt t s None = (is : List ℕ) → Plan t s is → ⊥
 AdmissibleAt t s (Some h) = (is : List ℕ) → Plan t s is → h ≤ Cost (prices t) is

@@ -13,7 +13,7 @@ use Rattle.plain.proofs.Splits.{same_or_not}
 abbrev pub AllClosed : Model → List Node → Type 0
 AllClosed t ns = Invariant t ns 0 (length t.operators)
 
--- a queued_with node whose f is at most c
+-- a queued node whose f is at most c
 pub record OnPlan (ns : List Node) (c : ℕ) : Type 0 where
   pub at : ℕ
   pub h : ℕ
@@ -43,7 +43,7 @@ module _ (t : Model) where
       side k (inl f) = inl f
       side k (inr o) = inr record { idle = o.idle; short = o.short; down = λ j f a. o.down j (λ _. applies-below (node ns k).state j a) a }
 
-  -- on each plan there is a queued_with node
+  -- on each plan there is a queued node
   module _ (ns : List Node) (inv : AllClosed t ns) where
     fair-front : (k : ℕ) (is : List ℕ) → k < length ns → Plan t (node ns k).state is → (o : Option ℕ) → (node ns k).queued ≡ o → AdmissibleAt t (node ns k).state o →
         OnPlan ns ((node ns k).g + Cost (prices t) is)

@@ -12,7 +12,7 @@ cause_of (Set f) = f.cause
 abbrev pub fault_number : Fault → ℕ
 fault_number f = number_of (cause_of f)
 
--- a fault of the search's own carries no values, one of the estimator's set its kindOf and its layer
+-- a fault of the search's own carries no values, one of the estimator's set its kind and its layer
 abbrev pub fault_values : Fault → List ℕ
 fault_values (Own c) = []
 fault_values (Set f) = f.kind ∷ f.layer ∷ []

@@ -7,9 +7,9 @@ use Rattle.task.specs.Model.{Model, model, prices, dearest}
 use Rattle.plain.specs.Plain as plain
 use Rattle.plain.proofs.Budget.{budget-total}
 use Rattle.memory.specs.Rows.{nodes_of}
-use Rattle.search.specs.declared.core.Core.{Core}
-use Rattle.search.specs.declared.core.Status.{Status}
-use Rattle.search.specs.declared.core.Status.TheVariants as statuses
+use Rattle.search.specs.declared.inner.Core.{Core}
+use Rattle.search.specs.declared.inner.Status.{Status}
+use Rattle.search.specs.declared.inner.Status.TheVariants as statuses
 use Rattle.search.specs.Search.{Valid, Standing, status_of}
 
 pub within-limit : (t : Model) (s : Core) → ∥ Valid t s ∥₁ → status_of s.status ≡ plain.running → s.total ≤ s.memory.capacity * ((s.memory.capacity - 1) * dearest (prices t) + 1)

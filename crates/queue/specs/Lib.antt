@@ -2,4 +2,4 @@ pub mod Heap
 pub mod Content
 pub mod Sifting
 pub mod Entries
-pub mod SearchOrderLemmas
+pub mod Lawful

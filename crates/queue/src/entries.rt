@@ -1,7 +1,6 @@
 // The entries of the search's open list and of the distances in a projection.
 ghost use Rattle.queue.specs.Entries.{search_item, search_no_later, rank_item, rank_no_later};
-ghost use Rattle.queue.specs.SearchOrderLemmas.{key-transitive, last-transitive};
-ghost use Rattle.std.proofs.Common.{rules};
+ghost use Rattle.queue.specs.Lawful.Orders.{search-total, search-transitive, search-antisymmetric, rank-total, rank-transitive, rank-antisymmetric};
 
 use crate::QueueEntry;
 
@@ -18,13 +17,11 @@ impl QueueEntry for SearchEntry {
 
     ghost no_later = { search_no_later };
 
-    ghost total = { Prim.search rules };
+    ghost total = { search-total };
 
-    ghost transitive = { λ x y z.
-        key-transitive x.f y.f z.f _ _ _
-        (key-transitive x.estimate y.estimate z.estimate _ _ _ (last-transitive x.node y.node z.node)) };
+    ghost transitive = { search-transitive };
 
-    ghost antisymmetric = { Prim.search rules };
+    ghost antisymmetric = { search-antisymmetric };
 
     fn item(&self) -> u32 {
         self.node
@@ -53,11 +50,11 @@ impl QueueEntry for RankEntry {
 
     ghost no_later = { rank_no_later };
 
-    ghost total = { Prim.search rules };
+    ghost total = { rank-total };
 
-    ghost transitive = { Prim.search rules };
+    ghost transitive = { rank-transitive };
 
-    ghost antisymmetric = { Prim.search rules };
+    ghost antisymmetric = { rank-antisymmetric };
 
     fn item(&self) -> u32 {
         self.rank

@@ -3,7 +3,7 @@ use Rattle.std.proofs.Common.{◌≡◌, ℕ, zero, suc, ◌+◌, ◌<◌, ◌�
 use Rattle.std.proofs.lemmas.Bool.{ltb-true, lt-ltb}
 use Rattle.std.proofs.lemmas.List.{append_assoc, append-nil, length-append, drop-append-le}
 use Rattle.std.proofs.lemmas.Fmt.{decimal_digit}
-use Rattle.std.specs.List.{AllByRecursion as All}
+use Rattle.std.specs.List.{AllByRecursion}
 use Rattle.tables.specs.declared.cause.Cause.TheVariants as cause
 use Rattle.tables.specs.declared.records.Variable.{Variable}
 use Rattle.tables.specs.declared.records.Entry.{Entry}
@@ -209,7 +209,7 @@ more-reads shape vs room first es s e r few small fits new free h =
 pub record Group (shape : Shape) (vs : List Variable) (room first n : ℕ) (es : List Entry) (s : Place) (es1 : List Entry) (s1 : Place) (xs : List Entry) : Type 0 where
   pub made : es1 ≡ es ++ xs
   pub count : length xs ≡ n
-  pub fit : All (Fits shape (domains vs)) xs
+  pub fit : AllByRecursion (Fits shape (domains vs)) xs
   pub distinct : Distinct (drop first es ++ xs)
   pub free : length es + n ≤ room
   pub bytes : s.rest ≡ spelled (map (entry_line shape) xs) ++ s1.rest
@@ -244,7 +244,7 @@ pub record GroupReads (text : List ℕ) (shape : Shape) (vs : List Variable) (ro
   pub rest : to.rest ≡ r
   pub stands : Stands text to
 
-pub group_reads : (text : List ℕ) (shape : Shape) (vs : List Variable) (room first : ℕ) (xs es : List Entry) (s : Place) (r : List ℕ) → length vs ≤ 32 → ((v : ℕ) → get_or (domains vs) v 0 ≤ 255) → All (Fits shape (domains vs)) xs
+pub group_reads : (text : List ℕ) (shape : Shape) (vs : List Variable) (room first : ℕ) (xs es : List Entry) (s : Place) (r : List ℕ) → length vs ≤ 32 → ((v : ℕ) → get_or (domains vs) v 0 ≤ 255) → AllByRecursion (Fits shape (domains vs)) xs
     → first ≤ length es → Distinct (drop first es ++ xs) → length es + length xs ≤ room → s.rest ≡ spelled (map (entry_line shape) xs) ++ r → Stands text s → GroupReads text shape vs room first es s xs r
 unfolding turns
 group_reads text shape vs room first [] es s r few small fit below d free e st = record { to = s; reads = rw (append-nil es); rest = e; stands = st }

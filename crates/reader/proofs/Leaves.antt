@@ -5,7 +5,7 @@ use Rattle.std.proofs.lemmas.Bool.{eqb-true}
 use Rattle.std.proofs.lemmas.Slice.Eq.{bytes_eq-Decides}
 use Rattle.std.proofs.lemmas.List.{append_assoc, length-append, drop-drop, drop_at, take_at}
 use Rattle.std.specs.Str.{bytes_eq}
-use Rattle.std.specs.List.{AllByRecursion as All}
+use Rattle.std.specs.List.{AllByRecursion}
 use Rattle.tables.specs.declared.cause.Cause.{Cause}
 use Rattle.tables.specs.declared.cause.Cause.TheVariants as cause
 use Rattle.tables.specs.declared.records.Span.{Span}
@@ -219,7 +219,7 @@ spelled-append (x ∷ xs) ys = rw (spelled-append xs ys) (sym (append_assoc (x +
 pub record Passed (s : Place) (n : ℕ) (ls : List (List ℕ)) (s1 : Place) : Type 0 where
   pub count : length ls ≡ n
   pub bytes : s.rest ≡ spelled ls ++ s1.rest
-  pub prints : All (λ l. printable l ≡ true) ls
+  pub prints : AllByRecursion (λ l. printable l ≡ true) ls
 
 pub pass-from : {C : Type 0} (n : ℕ) (s : Place) (u : Unit {0}) (s1 : Place) → turns n passed tt s ≡ read u s1 → ((ls : List (List ℕ)) → Passed s n ls s1 → C) → C
 unfolding turns
@@ -243,7 +243,7 @@ pub record Passes (text : List ℕ) (s : Place) (ls : List (List ℕ)) (r : List
   pub at : to.at ≡ s.at + length (spelled ls)
   pub stands : Stands text to
 
-pub pass-reads : (text : List ℕ) (ls : List (List ℕ)) (s : Place) (r : List ℕ) → s.rest ≡ spelled ls ++ r → All (λ l. printable l ≡ true) ls → Stands text s → Passes text s ls r
+pub pass-reads : (text : List ℕ) (ls : List (List ℕ)) (s : Place) (r : List ℕ) → s.rest ≡ spelled ls ++ r → AllByRecursion (λ l. printable l ≡ true) ls → Stands text s → Passes text s ls r
 unfolding turns
 pass-reads text [] s r e h st = record { to = s; reads = refl; rest = e; at = sym (add-zero s.at); stands = st }
 pass-reads text (l ∷ ls) s r e h st =

@@ -2,7 +2,7 @@
 use Rattle.std.proofs.Common.{◌≡◌, ℕ, zero, suc, ◌+◌, ◌<◌, ◌≤◌, true, ltb, List, [], ◌∷◌, ◌++◌, map, length, get_or, drop, Some, codes, decimal, sym, refl, ap, ◌∙◌, arith}
 use Rattle.std.proofs.lemmas.List.{append_assoc, append-nil, length-append, drop_all, drop_at}
 use Rattle.std.proofs.lemmas.Bool.{ltb-true, lt-ltb}
-use Rattle.std.specs.List.{flat_map, AllByRecursion as All}
+use Rattle.std.specs.List.{flat_map, AllByRecursion}
 use Rattle.tables.specs.declared.cause.Cause.TheVariants as cause
 use Rattle.tables.specs.declared.records.Span.{Span}
 use Rattle.tables.specs.declared.records.Variable.{Variable}
@@ -235,7 +235,7 @@ spelled-more o xs r = ap (λ z. z ++ r) (spelled-append (operator_lines o) (flat
 pub record Many (vs : List Variable) (rooms room n : ℕ) (os : List Operator) (es : List Entry) (s : Place) (b : List Operator × List Entry) (s1 : Place) (xs : List NamedOperator) : Type 0 where
   pub entries : b.1 ≡ es ++ flat_map entries_of xs
   pub count : length xs ≡ n
-  pub valid : All (ValidOperator (domains vs)) xs
+  pub valid : AllByRecursion (ValidOperator (domains vs)) xs
   pub free : length os + n ≤ rooms
   pub stored : length b.1 ≤ room
   pub bytes : s.rest ≡ spelled (flat_map operator_lines xs) ++ s1.rest
@@ -293,7 +293,7 @@ many-reads-more text vs rooms room os es s o xs r t m q =
     }
 
 pub many-reads : (text : List ℕ) (vs : List Variable) (rooms room : ℕ) (xs : List NamedOperator) (os : List Operator) (es : List Entry) (s : Place) (r : List ℕ) → length vs ≤ 32 → ((v : ℕ) → get_or (domains vs) v 0 ≤ 255)
-    → length os + length xs ≤ rooms → length es + length (flat_map entries_of xs) ≤ room → All (ValidOperator (domains vs)) xs → s.rest ≡ spelled (flat_map operator_lines xs) ++ r → Stands text s → ManyReads text vs rooms room os es s xs r
+    → length os + length xs ≤ rooms → length es + length (flat_map entries_of xs) ≤ room → AllByRecursion (ValidOperator (domains vs)) xs → s.rest ≡ spelled (flat_map operator_lines xs) ++ r → Stands text s → ManyReads text vs rooms room os es s xs r
 unfolding turns
 many-reads text vs rooms room [] os es s r few small free stored valid e st = record { records = []; to = s; reads = rw (append-nil os, append-nil es); rest = e; stands = st; are = tt }
 many-reads text vs rooms room (o ∷ xs) os es s r few small free stored valid e st =

@@ -2,7 +2,7 @@
 use Rattle.std.proofs.Common.{◌≡◌, ℕ, zero, suc, ◌+◌, ◌-◌, ◌<◌, ◌≤◌, true, List, [], ◌∷◌, ◌++◌, map, length, get_or, take, Some, None, Option, sym, refl, ap, ◌∙◌, arith}
 use Rattle.std.proofs.lemmas.List.{append_assoc, length-append, take_at, drop_at}
 use Rattle.std.proofs.ByRecursion.{All-get_or, All-append, All-weaker}
-use Rattle.std.specs.List.{flat_map, AllByRecursion as All}
+use Rattle.std.specs.List.{flat_map, AllByRecursion}
 use Rattle.tables.specs.declared.records.Variable.{Variable}
 use Rattle.tables.specs.declared.records.Operator.{Operator}
 use Rattle.tables.specs.declared.records.Entry.{Entry}
@@ -21,7 +21,7 @@ use Rattle.reader.proofs.Operators as operators
 use Rattle.reader.proofs.WholeReads.{Stating, domains-at, length-domains_of}
 
 -- variables, by their numbers
-variable-fits : (text : List ℕ) (xs : List NamedVariable) (ws : List Variable) → variables.AllIs text xs ws → All ValidVariable xs → VariablesFit (length text) ws
+variable-fits : (text : List ℕ) (xs : List NamedVariable) (ws : List Variable) → variables.AllIs text xs ws → AllByRecursion ValidVariable xs → VariablesFit (length text) ws
 variable-fits text [] [] are valid k l = let no_way : ⊥ = omega arith in absurd no_way
 variable-fits text [] (w ∷ ws) are valid k l = absurd are
 variable-fits text (x ∷ xs) [] are valid k l = absurd are
@@ -42,12 +42,12 @@ variable_names text (x ∷ xs) [] are v d l = absurd are
 variable_names text (x ∷ xs) (w ∷ ws) are zero d l = are.0.name
 variable_names text (x ∷ xs) (w ∷ ws) are (suc v) d l = variable_names text xs ws are.2 v d (omega arith)
 
-nth-spelled : (ls : List (List ℕ)) (n : ℕ) → All (λ l. printable l ≡ true) ls → n < length ls → nth_line n (spelled ls) ≡ get_or ls n []
+nth-spelled : (ls : List (List ℕ)) (n : ℕ) → AllByRecursion (λ l. printable l ≡ true) ls → n < length ls → nth_line n (spelled ls) ≡ get_or ls n []
 nth-spelled [] n prints l = let no_way : ⊥ = omega arith in absurd no_way
 nth-spelled (x ∷ ls) zero prints l = rw (cut_line_lem x (spelled ls) prints.0)
 nth-spelled (x ∷ ls) (suc n) prints l = rw (cut_line_lem x (spelled ls) prints.0) (nth-spelled ls n prints.1 (omega arith))
 
-pub value_names : (text : List ℕ) (xs : List NamedVariable) (ws : List Variable) → variables.AllIs text xs ws → All ValidVariable xs → (v x : ℕ) (d : NamedVariable) → v < length xs → x < length (get_or xs v d).values
+pub value_names : (text : List ℕ) (xs : List NamedVariable) (ws : List Variable) → variables.AllIs text xs ws → AllByRecursion ValidVariable xs → (v x : ℕ) (d : NamedVariable) → v < length xs → x < length (get_or xs v d).values
     → nth_line x (spanned text (get_or ws v zero_variable).values) ≡ get_or (get_or xs v d).values x []
 value_names text [] ws are valid v n d l k = let no_way : ⊥ = omega arith in absurd no_way
 value_names text (x ∷ xs) [] are valid v n d l k = absurd are
@@ -60,14 +60,14 @@ fact-fits ds e h =
     let r : RequiredBelow (get_or ds e.variable 0) e.required = rw h.required h.value in
     record { variable = h.variable; required = r; value = h.value }
 
-operators-fit-entries : (ds : List ℕ) (os : List NamedOperator) → All (ValidOperator ds) os → All (EffectFits ds) (flat_map entries_of os)
+operators-fit-entries : (ds : List ℕ) (os : List NamedOperator) → AllByRecursion (ValidOperator ds) os → AllByRecursion (EffectFits ds) (flat_map entries_of os)
 operators-fit-entries ds [] h = tt
 operators-fit-entries ds (o ∷ os) h =
     All-append (EffectFits ds) (entries_of o) (flat_map entries_of os)
     (All-append (EffectFits ds) o.action.conditions o.action.effects (All-weaker (FactFits ds) (EffectFits ds) (fact-fits ds) o.action.conditions h.0.conditions) h.0.effects)
     (operators-fit-entries ds os h.1)
 
-entries_fit : (ws : List Variable) (es : List Entry) → All (EffectFits (domains ws)) es → EntriesFit ws es
+entries_fit : (ws : List Variable) (es : List Entry) → AllByRecursion (EffectFits (domains ws)) es → EntriesFit ws es
 entries_fit ws es h k l =
     let e = All-get_or (EffectFits (domains ws)) es k zero_entry l h in
     (omega (arith, e.variable, length-domains ws), omega (arith, e.value, domain-at ws (get_or es k zero_entry).variable))
@@ -76,7 +76,7 @@ required-below : (d : ℕ) (o : Option ℕ) (x : ℕ) → RequiredBelow d o → 
 required-below d None x h e = let bad : ◌≡◌ {A = ℕ} 0 1 = cc in let no_way : ⊥ = omega arith in absurd no_way
 required-below d (Some y) x h e = let same : y ≡ x = cc in rw (← same) h
 
-required_fit : (ws : List Variable) (es : List Entry) → All (EffectFits (domains ws)) es → RequiredFit ws es
+required_fit : (ws : List Variable) (es : List Entry) → AllByRecursion (EffectFits (domains ws)) es → RequiredFit ws es
 required_fit ws es h k l x e =
     let f = All-get_or (EffectFits (domains ws)) es k zero_entry l h in
     let b = required-below (get_or (domains ws) (get_or es k zero_entry).variable 0) (get_or es k zero_entry).required x f.required e in
@@ -95,7 +95,7 @@ operator_names text first (x ∷ xs) [] are i d l = absurd are
 operator_names text first (x ∷ xs) (r ∷ rs) are zero d l = are.0.name
 operator_names text first (x ∷ xs) (r ∷ rs) are (suc i) d l = operator_names text (first + length (entries_of x)) xs rs are.1 i d (omega arith)
 
-operators_fit : (text : List ℕ) (m : ℕ) (ds : List ℕ) (first : ℕ) (xs : List NamedOperator) (rs : List Operator) → operators.AllAt text first xs rs → All (ValidOperator ds) xs → first + length (flat_map entries_of xs) ≤ m → OperatorsFit (length text) m rs
+operators_fit : (text : List ℕ) (m : ℕ) (ds : List ℕ) (first : ℕ) (xs : List NamedOperator) (rs : List Operator) → operators.AllAt text first xs rs → AllByRecursion (ValidOperator ds) xs → first + length (flat_map entries_of xs) ≤ m → OperatorsFit (length text) m rs
 operators_fit text m ds first [] [] are valid fits k l = let no_way : ⊥ = omega arith in absurd no_way
 operators_fit text m ds first [] (r ∷ rs) are valid fits k l = absurd are
 operators_fit text m ds first (x ∷ xs) [] are valid fits k l = absurd are
@@ -145,7 +145,7 @@ actions-are text pre es (x ∷ xs) (r ∷ rs) e are =
     let ih = actions-are text (pre ++ entries_of x) es xs rs (next-part pre x xs es e) (rw k are.1) in
     rw (p.conditions, p.effects, are.0.price, ih)
 
-operators_distinct : (text : List ℕ) (ds : List ℕ) (pre es : List Entry) (xs : List NamedOperator) (rs : List Operator) → es ≡ pre ++ flat_map entries_of xs → operators.AllAt text (length pre) xs rs → All (ValidOperator ds) xs → OperatorsDistinct es rs
+operators_distinct : (text : List ℕ) (ds : List ℕ) (pre es : List Entry) (xs : List NamedOperator) (rs : List Operator) → es ≡ pre ++ flat_map entries_of xs → operators.AllAt text (length pre) xs rs → AllByRecursion (ValidOperator ds) xs → OperatorsDistinct es rs
 operators_distinct text ds pre es [] [] e are valid k l = let no_way : ⊥ = omega arith in absurd no_way
 operators_distinct text ds pre es [] (r ∷ rs) e are valid k l = absurd are
 operators_distinct text ds pre es (x ∷ xs) [] e are valid k l = absurd are
@@ -162,9 +162,9 @@ rules-kept text t h valid st =
     let ds : domains h.variables ≡ domains_of t.variables = domains-at text t.variables h.variables st.variables in
     let len : length h.variables ≡ length t.variables = sym (length-domains h.variables) ∙ (ap length ds ∙ length-domains_of t.variables) in
     let goal_is : take h.goals h.entries ≡ t.goal = rw (st.entries, st.goals) (take_at t.goal (flat_map entries_of t.operators) (length t.goal) refl) in
-    let facts : All (EffectFits (domains h.variables)) t.goal = rw ds (All-weaker (FactFits (domains_of t.variables)) (EffectFits (domains_of t.variables)) (fact-fits (domains_of t.variables)) t.goal valid.goal) in
-    let rest : All (EffectFits (domains h.variables)) (flat_map entries_of t.operators) = rw ds (operators-fit-entries (domains_of t.variables) t.operators valid.operators) in
-    let all : All (EffectFits (domains h.variables)) h.entries = rw st.entries (All-append (EffectFits (domains h.variables)) t.goal (flat_map entries_of t.operators) facts rest) in
+    let facts : AllByRecursion (EffectFits (domains h.variables)) t.goal = rw ds (All-weaker (FactFits (domains_of t.variables)) (EffectFits (domains_of t.variables)) (fact-fits (domains_of t.variables)) t.goal valid.goal) in
+    let rest : AllByRecursion (EffectFits (domains h.variables)) (flat_map entries_of t.operators) = rw ds (operators-fit-entries (domains_of t.variables) t.operators valid.operators) in
+    let all : AllByRecursion (EffectFits (domains h.variables)) h.entries = rw st.entries (All-append (EffectFits (domains h.variables)) t.goal (flat_map entries_of t.operators) facts rest) in
     let n = length-operators text (length t.goal) t.operators h.operators st.operators in
     let m : length h.entries ≡ length t.goal + length (flat_map entries_of t.operators) = ap length st.entries ∙ length-append t.goal (flat_map entries_of t.operators) in
     record {

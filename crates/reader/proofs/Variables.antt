@@ -2,7 +2,7 @@
 use Rattle.std.proofs.Common.{◌≡◌, ℕ, zero, suc, ◌+◌, ◌<◌, ◌≤◌, true, ltb, List, [], ◌∷◌, ◌++◌, map, length, codes, decimal, sym, refl, ap, ◌∙◌, arith}
 use Rattle.std.proofs.lemmas.List.{append_assoc, append-nil, length-append}
 use Rattle.std.proofs.lemmas.Bool.{ltb-true, lt-ltb}
-use Rattle.std.specs.List.{flat_map, AllByRecursion as All}
+use Rattle.std.specs.List.{flat_map, AllByRecursion}
 use Rattle.tables.specs.declared.cause.Cause.TheVariants as cause
 use Rattle.tables.specs.declared.records.Variable.{Variable}
 use Rattle.tables.specs.Records.{spanned}
@@ -23,7 +23,7 @@ bytes_of v r = simp (spelled-append, append_assoc)
 -- a variable whose names are printable and whose values are 1 to 255
 pub record Declared (v : NamedVariable) : Type 0 where
   pub name : printable v.name ≡ true
-  pub names : All (λ n. printable n ≡ true) v.values
+  pub names : AllByRecursion (λ n. printable n ≡ true) v.values
   pub some : 1 ≤ length v.values
   pub many : length v.values ≤ 255
 
@@ -139,7 +139,7 @@ pub record Many (room : ℕ) (vs : List Variable) (s : Place) (n : ℕ) (ws : Li
   pub made : ws ≡ vs ++ records
   pub sizes : domains records ≡ domains_of xs
   pub count : length xs ≡ n
-  pub valid : All Declared xs
+  pub valid : AllByRecursion Declared xs
   pub free : length vs + n ≤ room
   pub bytes : s.rest ≡ spelled (flat_map variable_lines xs) ++ s1.rest
 
@@ -195,7 +195,7 @@ many-reads-more text v xs room vs s r t m q =
       are = (m.is, q.are);
     }
 
-pub many-reads : (text : List ℕ) (xs : List NamedVariable) (room : ℕ) (vs : List Variable) (s : Place) (r : List ℕ) → length vs + length xs ≤ room → All Declared xs → s.rest ≡ spelled (flat_map variable_lines xs) ++ r → Stands text s → ManyReads text room vs s xs r
+pub many-reads : (text : List ℕ) (xs : List NamedVariable) (room : ℕ) (vs : List Variable) (s : Place) (r : List ℕ) → length vs + length xs ≤ room → AllByRecursion Declared xs → s.rest ≡ spelled (flat_map variable_lines xs) ++ r → Stands text s → ManyReads text room vs s xs r
 unfolding turns
 many-reads text [] room vs s r fits valid e st = record { records = []; to = s; reads = rw (append-nil vs); rest = e; stands = st; are = tt }
 many-reads text (v ∷ xs) room vs s r fits valid e st =
@@ -215,10 +215,10 @@ pub record Started (done vs : List Variable) (s : Place) (ws : List Variable) (s
   pub lines : flat_map variable_lines ys ≡ flat_map variable_lines xs
   pub same : domains_of ys ≡ domains_of xs
   pub count : length ys ≡ length xs
-  pub valid : All ValidVariable ys
+  pub valid : AllByRecursion ValidVariable ys
   pub bytes : s.rest ≡ spelled (map (λ v. decimal v.initial) ys) ++ s1.rest
 
-pub initials-from : {C : Type 0} (xs : List NamedVariable) (done vs : List Variable) (s : Place) (ws : List Variable) (s1 : Place) → initials_of done vs s ≡ read ws s1 → domains vs ≡ domains_of xs → All Declared xs
+pub initials-from : {C : Type 0} (xs : List NamedVariable) (done vs : List Variable) (s : Place) (ws : List Variable) (s1 : Place) → initials_of done vs s ≡ read ws s1 → domains vs ≡ domains_of xs → AllByRecursion Declared xs
     → ((ys : List NamedVariable) → Started done vs s ws s1 xs ys → C) → C
 initials-from [] done [] s ws s1 e sizes valid h =
     let f : s ≡ s1 = cc in
@@ -259,7 +259,7 @@ pub record StartReads (text : List ℕ) (done vs : List Variable) (s : Place) (x
   pub stands : Stands text to
   pub are : AllIs text xs records
 
-pub initials-reads : (text : List ℕ) (xs : List NamedVariable) (done vs : List Variable) (s : Place) (r : List ℕ) → AllAt text xs vs → All ValidVariable xs → s.rest ≡ spelled (map (λ v. decimal v.initial) xs) ++ r → Stands text s → StartReads text done vs s xs r
+pub initials-reads : (text : List ℕ) (xs : List NamedVariable) (done vs : List Variable) (s : Place) (r : List ℕ) → AllAt text xs vs → AllByRecursion ValidVariable xs → s.rest ≡ spelled (map (λ v. decimal v.initial) xs) ++ r → Stands text s → StartReads text done vs s xs r
 initials-reads text [] done [] s r are valid e st = record { records = []; to = s; reads = rw (append-nil done); rest = e; stands = st; are = tt }
 initials-reads text [] done (v ∷ vs) s r are valid e st = absurd are
 initials-reads text (x ∷ xs) done [] s r are valid e st = absurd are

@@ -2,7 +2,7 @@
 use Rattle.std.proofs.Common.{◌≡◌, ℕ, suc, ◌+◌, ◌<◌, ◌≤◌, Bool, true, false, cond, eqb, List, [], ◌∷◌, ◌++◌, map, length, None, codes, decimal, sym, refl, ap, ◌∙◌, arith}
 use Rattle.std.proofs.lemmas.List.{append_assoc, nil_from_length}
 use Rattle.std.proofs.lemmas.Bool.{eqb-true}
-use Rattle.std.specs.List.{flat_map, AllByRecursion as All}
+use Rattle.std.specs.List.{flat_map, AllByRecursion}
 use Rattle.tables.specs.declared.cause.Cause.TheVariants as cause
 use Rattle.tables.specs.declared.records.Variable.{Variable}
 use Rattle.tables.specs.declared.records.Operator.{Operator}
@@ -62,10 +62,10 @@ record State (vs ws : List Variable) (s s1 : Place) (xs ys : List NamedVariable)
   pub lines : flat_map variable_lines ys ≡ flat_map variable_lines xs
   pub same : domains_of ys ≡ domains_of xs
   pub count : length ys ≡ length xs
-  pub valid : All ValidVariable ys
+  pub valid : AllByRecursion ValidVariable ys
   pub bytes : s.rest ≡ state_bytes ys s1.rest
 
-state-from : {C : Type 0} (xs : List NamedVariable) (vs : List Variable) (s : Place) (ws : List Variable) (s1 : Place) → state_of vs s ≡ read ws s1 → domains vs ≡ domains_of xs → All variables.Declared xs
+state-from : {C : Type 0} (xs : List NamedVariable) (vs : List Variable) (s : Place) (ws : List Variable) (s1 : Place) → state_of vs s ≡ read ws s1 → domains vs ≡ domains_of xs → AllByRecursion variables.Declared xs
     → ((ys : List NamedVariable) → State vs ws s s1 xs ys → C) → C
 state-from xs vs s ws s1 e sizes valid h =
     after (word_of (codes "0") s) _ ws s1 e (λ u1 a1 e1 f1.
@@ -89,7 +89,7 @@ state-from xs vs s ws s1 e sizes valid h =
     }))))))
 
 record Goal (vs : List Variable) (room : ℕ) (s s1 : Place) (gs : List Entry) : Type 0 where
-  pub fit : All (FactFits (domains vs)) gs
+  pub fit : AllByRecursion (FactFits (domains vs)) gs
   pub distinct : Distinct gs
   pub few : length gs ≤ length vs
   pub stored : length gs ≤ room
@@ -111,7 +111,7 @@ goal-from vs room s gs s1 e =
     let n-is : n ≡ length gs = sym g.count ∙ ap length xs-is in
     let b2 : a1.rest ≡ before (decimal (length gs)) a2.rest = l2.line.bytes ∙ ap (λ z. before (decimal z) a2.rest) n-is in
     let b3 : a2.rest ≡ spelled (map fact_line gs) ++ a3.rest = g.bytes ∙ ap (λ z. spelled (map fact_line z) ++ a3.rest) xs-is in
-    let fit : All (FactFits (domains vs)) gs = rw xs-is at g.fit in
+    let fit : AllByRecursion (FactFits (domains vs)) gs = rw xs-is at g.fit in
     let distinct : Distinct gs = rw xs-is at g.distinct in
     record {
       fit = fit;
@@ -146,8 +146,8 @@ whole-made room text n m vs ws xs ys gs b os a1 a2 a3 a4 a5 a6 a7 a8 small b0 b1
     let n-is : n ≡ length ys = sym many.count ∙ sym state.count in
     let m-is : m ≡ length os = sym ops.count in
     let ws-is : length ws ≡ length ys = sym (length-domains ws) ∙ (ap length ds ∙ length-domains_of ys) in
-    let fit : All (FactFits (domains_of ys)) gs = rw ds at goal.fit in
-    let valids : All (ValidOperator (domains_of ys)) os = rw ds at ops.valid in
+    let fit : AllByRecursion (FactFits (domains_of ys)) gs = rw ds at goal.fit in
+    let valids : AllByRecursion (ValidOperator (domains_of ys)) os = rw ds at ops.valid in
     let es : length (gs ++ flat_map entries_of os) ≤ room.entries = rw ops.entries at ops.stored in
     let tail : a5.rest ≡ operators_bytes os [] = b5 ∙ (ap (λ z. before (decimal z) a6.rest) m-is ∙ ap (before (decimal (length os))) (ops.bytes ∙ ap (λ z. spelled (flat_map operator_lines os) ++ z) (b7 ∙ ap (before (codes "0")) b8))) in
     let all : a1.rest ≡ before (decimal (length ys)) (spelled (flat_map variable_lines ys) ++ state_bytes ys (goal_bytes gs (operators_bytes os []))) =

@@ -2,7 +2,7 @@
 use Rattle.std.proofs.Common.{◌≡◌, ℕ, zero, suc, ◌+◌, ◌≤◌, List, [], ◌∷◌, ◌++◌, map, length, get_or, None, codes, decimal, sym, refl, ap, ◌∙◌, arith}
 use Rattle.std.proofs.lemmas.List.{length-append}
 use Rattle.std.proofs.ByRecursion.{All-weaker}
-use Rattle.std.specs.List.{flat_map, AllByRecursion as All}
+use Rattle.std.specs.List.{flat_map, AllByRecursion}
 use Rattle.tables.specs.declared.records.Variable.{Variable}
 use Rattle.tables.specs.declared.records.Operator.{Operator}
 use Rattle.tables.specs.declared.records.Entry.{Entry}
@@ -57,7 +57,7 @@ record StateReads (text : List ℕ) (vs : List Variable) (s : Place) (xs : List 
   pub step : Reads text (state_of vs s) records r
   pub are : variables.AllIs text xs records
 
-state-reads : (text : List ℕ) (vs : List Variable) (s : Place) (xs : List NamedVariable) (r : List ℕ) → variables.AllAt text xs vs → All ValidVariable xs → Stands text s → s.rest ≡ state_bytes xs r → StateReads text vs s xs r
+state-reads : (text : List ℕ) (vs : List Variable) (s : Place) (xs : List NamedVariable) (r : List ℕ) → variables.AllAt text xs vs → AllByRecursion ValidVariable xs → Stands text s → s.rest ≡ state_bytes xs r → StateReads text vs s xs r
 state-reads text vs s xs r are valid st e =
     let r3 = before (codes "end_state") r in
     let r2 = spelled (map (λ v. decimal v.initial) xs) ++ r3 in
@@ -81,7 +81,7 @@ state-reads text vs s xs r are valid st e =
       are = q.are;
     })
 
-goal-reads : (text : List ℕ) (vs : List Variable) (room : ℕ) (s : Place) (gs : List Entry) (r : List ℕ) → length vs ≤ 32 → ((v : ℕ) → get_or (domains vs) v 0 ≤ 255) → All (FactFits (domains vs)) gs → Distinct gs → length gs ≤ length vs → length gs ≤ room
+goal-reads : (text : List ℕ) (vs : List Variable) (room : ℕ) (s : Place) (gs : List Entry) (r : List ℕ) → length vs ≤ 32 → ((v : ℕ) → get_or (domains vs) v 0 ≤ 255) → AllByRecursion (FactFits (domains vs)) gs → Distinct gs → length gs ≤ length vs → length gs ≤ room
     → Stands text s → s.rest ≡ goal_bytes gs r → Reads text (goal_of vs room s) gs r
 goal-reads text vs room s gs r few small fit distinct count free st e =
     let r3 = before (codes "end_goal") r in
@@ -115,7 +115,7 @@ record OperatorsReads (text : List ℕ) (vs : List Variable) (rooms room : ℕ) 
   pub are : operators.AllAt text (length gs) os records
 
 operators-reads : (text : List ℕ) (vs : List Variable) (rooms room : ℕ) (gs : List Entry) (s : Place) (os : List NamedOperator) → length vs ≤ 32 → ((v : ℕ) → get_or (domains vs) v 0 ≤ 255) → length os ≤ rooms → length os ≤ 256
-    → length gs + length (flat_map entries_of os) ≤ room → All (ValidOperator (domains vs)) os → Stands text s → s.rest ≡ operators_bytes os [] → OperatorsReads text vs rooms room gs s os
+    → length gs + length (flat_map entries_of os) ≤ room → AllByRecursion (ValidOperator (domains vs)) os → Stands text s → s.rest ≡ operators_bytes os [] → OperatorsReads text vs rooms room gs s os
 unfolding operators_of
 operators-reads text vs rooms room gs s os few small free listed stored valid st e =
     let r2 = before (codes "0") [] in
@@ -144,7 +144,7 @@ domains-at text [] (w ∷ ws) h = absurd h
 domains-at text (x ∷ xs) [] h = absurd h
 domains-at text (x ∷ xs) (w ∷ ws) h = rw (h.0.domain, domains-at text xs ws h.2)
 
-small-domains : (xs : List NamedVariable) → All ValidVariable xs → (v : ℕ) → get_or (domains_of xs) v 0 ≤ 255
+small-domains : (xs : List NamedVariable) → AllByRecursion ValidVariable xs → (v : ℕ) → get_or (domains_of xs) v 0 ≤ 255
 small-domains [] h v = omega arith
 small-domains (x ∷ xs) h zero = h.0.many
 small-domains (x ∷ xs) h (suc v) = small-domains xs h.1 v
@@ -189,8 +189,8 @@ whole-reads room t valid enough-v enough-o enough-e =
     let ds = domains-at text t.variables c.records c.are in
     let small : (v : ℕ) → get_or (domains c.records) v 0 ≤ 255 = λ v. rw ds (small-domains t.variables valid.variables v) in
     let ws-is : length c.records ≡ length t.variables = sym (length-domains c.records) ∙ (ap length ds ∙ length-domains_of t.variables) in
-    let fit : All (FactFits (domains c.records)) t.goal = rw ds valid.goal in
-    let valids : All (ValidOperator (domains c.records)) t.operators = rw ds valid.operators in
+    let fit : AllByRecursion (FactFits (domains c.records)) t.goal = rw ds valid.goal in
+    let valids : AllByRecursion (ValidOperator (domains c.records)) t.operators = rw ds valid.operators in
     with_it (goal-reads text c.records room.entries c.step.to t.goal r4 (omega (arith, valid.few)) small fit valid.distinct (omega (arith, valid.few_goals)) (omega arith) c.step.stands c.step.rest) (λ d.
     with_it (operators-reads text c.records room.operators room.entries t.goal d.to t.operators (omega (arith, valid.few)) small enough-o valid.listed (omega arith) valids d.stands d.rest) (λ o.
     record {

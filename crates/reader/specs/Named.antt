@@ -1,6 +1,6 @@
 -- A planning task with the names of its variables, values and operators, and what makes one valid.
 use Rattle.std.specs.Prelude.{◌≡◌, ℕ, ◌<◌, ◌≤◌, true, List, ◌++◌, map, length, Some, None, Option, slice_index}
-use Rattle.std.specs.List.{flat_map, AllByRecursion as All}
+use Rattle.std.specs.List.{flat_map, AllByRecursion}
 use Rattle.tables.specs.declared.records.Entry.{Entry}
 use Rattle.tables.specs.Rules.{Distinct}
 use Rattle.task.specs.Model.{Model, Action}
@@ -47,7 +47,7 @@ all_entries t = t.goal ++ flat_map entries_of t.operators
 -- names are printable, there are 1 to 255 values, and the initial one is among them
 pub record ValidVariable (v : NamedVariable) : Type 0 where
   pub name : printable v.name ≡ true
-  pub names : All (λ n. printable n ≡ true) v.values
+  pub names : AllByRecursion (λ n. printable n ≡ true) v.values
   pub many : length v.values ≤ 255
   pub initial : v.initial < length v.values
 
@@ -71,8 +71,8 @@ pub record FactFits (domains : List ℕ) (e : Entry) : Type 0 where
 -- conditions are facts, effects fit, no variable stands twice among both, and the price is at most 65,535
 pub record ValidOperator (domains : List ℕ) (o : NamedOperator) : Type 0 where
   pub name : printable o.name ≡ true
-  pub conditions : All (FactFits domains) o.action.conditions
-  pub effects : All (EffectFits domains) o.action.effects
+  pub conditions : AllByRecursion (FactFits domains) o.action.conditions
+  pub effects : AllByRecursion (EffectFits domains) o.action.effects
   pub few_conditions : length o.action.conditions ≤ length domains
   pub few_effects : length o.action.effects ≤ length domains
   pub distinct : Distinct (entries_of o)
@@ -82,10 +82,10 @@ pub record ValidOperator (domains : List ℕ) (o : NamedOperator) : Type 0 where
 pub record Valid (t : NamedTask) : Type 0 where
   pub some : 1 ≤ length t.variables
   pub few : length t.variables ≤ 32
-  pub variables : All ValidVariable t.variables
-  pub goal : All (FactFits (domains_of t.variables)) t.goal
+  pub variables : AllByRecursion ValidVariable t.variables
+  pub goal : AllByRecursion (FactFits (domains_of t.variables)) t.goal
   pub few_goals : length t.goal ≤ length t.variables
   pub distinct : Distinct t.goal
   pub listed : length t.operators ≤ 256
-  pub operators : All (ValidOperator (domains_of t.variables)) t.operators
+  pub operators : AllByRecursion (ValidOperator (domains_of t.variables)) t.operators
   pub stored : length (all_entries t) ≤ 4096

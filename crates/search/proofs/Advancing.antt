@@ -3,11 +3,11 @@ use Rattle.std.proofs.Common.{◌≡◌, ℕ, zero, suc, ◌<◌, Bool, List, []
 use Rattle.task.specs.Model.{Model}
 use Rattle.plain.specs.Plain as plain
 use Rattle.plain.specs.Plain.{Plain, Expansions, Expands, Finds, Overflows, Advances, Advances.expands_all, Advances.finds, Advances.exhausts, Advances.overflows, reports}
-use Rattle.search.specs.declared.core.Core.{Core}
-use Rattle.search.specs.declared.core.Status.{Status}
-use Rattle.search.specs.declared.core.Status.TheVariants as statuses
-use Rattle.search.specs.declared.core.Event.{Event}
-use Rattle.search.specs.declared.core.Event.TheVariants.{Expanded, Goal, Empty, Overflow}
+use Rattle.search.specs.declared.inner.Core.{Core}
+use Rattle.search.specs.declared.inner.Status.{Status}
+use Rattle.search.specs.declared.inner.Status.TheVariants as statuses
+use Rattle.search.specs.declared.inner.Event.{Event}
+use Rattle.search.specs.declared.inner.Event.TheVariants.{Expanded, Goal, Empty, Overflow}
 use Rattle.search.specs.declared.answer.Progress.{Progress}
 use Rattle.memory.specs.Rows.{nodes_of, Consistent, Untouched}
 use Rattle.memory.specs.Steps.{WithinLimits}

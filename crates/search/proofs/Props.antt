@@ -9,9 +9,9 @@ use Rattle.task.specs.Model.{Model}
 use Rattle.plain.specs.Plain as plain
 use Rattle.plain.specs.Counts.{Budget}
 use Rattle.memory.proofs.Props.{consistent-prop}
-use Rattle.search.specs.declared.core.Core.{Core}
-use Rattle.search.specs.declared.core.Status.{Status}
-use Rattle.search.specs.declared.core.Status.TheVariants.{Fresh, Running, Found, NoPlan, Full}
+use Rattle.search.specs.declared.inner.Core.{Core}
+use Rattle.search.specs.declared.inner.Status.{Status}
+use Rattle.search.specs.declared.inner.Status.TheVariants.{Fresh, Running, Found, NoPlan, Full}
 use Rattle.memory.specs.Steps.{WithinLimits}
 use Rattle.memory.specs.Trees.{ParentTree}
 use Rattle.search.specs.Search.{Standing, Valid}

@@ -6,8 +6,8 @@ use Rattle.plain.specs.Plain.{Plain, GeneratesAll, Expands, Finds, Overflows, Ex
 use Rattle.plain.proofs.Placed.{set-placed}
 use Rattle.plain.proofs.Budget.{budget-take, budget-total}
 use Rattle.queue.specs.declared.entries.SearchEntry.{SearchEntry}
-use Rattle.search.specs.declared.core.Core.{Core}
-use Rattle.search.specs.declared.core.Status.TheVariants.{Running}
+use Rattle.search.specs.declared.inner.Core.{Core}
+use Rattle.search.specs.declared.inner.Status.TheVariants.{Running}
 use Rattle.memory.specs.Rows.{nodes_of, TakenFirst}
 use Rattle.memory.specs.Steps.{NoRoom, WithinLimits}
 use Rattle.search.specs.Search.{plain_of, status_of, ended}

@@ -1,9 +1,9 @@
 -- What a status says: when a find is the search's own, and when a search is not fresh or not running.
 use Rattle.std.proofs.Common.{◌≡◌, ℕ, sym, refl, ap, ◌∙◌, arith}
 use Rattle.plain.specs.Plain as plain
-use Rattle.search.specs.declared.core.Core.{Core}
-use Rattle.search.specs.declared.core.Status.{Status}
-use Rattle.search.specs.declared.core.Status.TheVariants.{Fresh, Running, Found, NoPlan, Full}
+use Rattle.search.specs.declared.inner.Core.{Core}
+use Rattle.search.specs.declared.inner.Status.{Status}
+use Rattle.search.specs.declared.inner.Status.TheVariants.{Fresh, Running, Found, NoPlan, Full}
 use Rattle.search.specs.Search.{plain_of, status_of}
 
 status-found : (st : Status) (y : ℕ) → status_of st ≡ plain.found y → st ≡ Found y

@@ -3,13 +3,13 @@ use Rattle.std.specs.Prelude.{◌≡◌, ℕ, ◌<◌, Bool, true, false, length
 use Rattle.task.specs.Model.{Model}
 use Rattle.plain.specs.Plain as plain
 use Rattle.plain.specs.Plain.{Kind, Plain, Expands, Expansions, Finds, Overflows, Queued}
-use Rattle.search.specs.declared.core.Core.{Core}
+use Rattle.search.specs.declared.inner.Core.{Core}
 use Rattle.search.specs.declared.answer.GoAhead.{GoAhead}
 use Rattle.search.specs.declared.answer.Find.{Find}
-use Rattle.search.specs.declared.core.Status.{Status}
-use Rattle.search.specs.declared.core.Status.TheVariants as statuses
-use Rattle.search.specs.declared.core.Event.{Event}
-use Rattle.search.specs.declared.core.Event.TheVariants.{Expanded, Goal, Empty, Overflow}
+use Rattle.search.specs.declared.inner.Status.{Status}
+use Rattle.search.specs.declared.inner.Status.TheVariants as statuses
+use Rattle.search.specs.declared.inner.Event.{Event}
+use Rattle.search.specs.declared.inner.Event.TheVariants.{Expanded, Goal, Empty, Overflow}
 use Rattle.tables.specs.declared.cause.Cause.TheVariants as cause
 use Rattle.plain.specs.declared.fault.Fault.{Fault}
 use Rattle.search.specs.declared.answer.Progress.{Progress}
@@ -83,7 +83,7 @@ module _ {E : Type 0} (est : Kind E) (t : Model) (N : ℕ) where
 abbrev pub with_status : Core → Status → Core
 with_status s st = record { memory = s.memory; status = st; bound = s.bound; total = s.total }
 
--- a running search expands_all on to the status of the event; any other refuses and stays
+-- a running search goes on to the status of the event; any other refuses and stays
 abbrev pub Concludes : Core → Status → Event → Progress → Core → Type 0
 Concludes s statuses.Running Expanded r s' = (s' ≡ s) × (outcome_of r ≡ plain.more) × (go_ahead_of r ≡ true)
 Concludes s statuses.Running (Goal f) r s' = (s' ≡ with_status s (statuses.Found f.node)) × (outcome_of r ≡ plain.found_plan (find_of f)) × (go_ahead_of r ≡ false)

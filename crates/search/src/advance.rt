@@ -7,7 +7,7 @@ ghost use Rattle.memory.specs.Steps.{kind_of, WithinLimits};
 ghost use Rattle.search.specs.Search.{plain_of, Ran, Concludes, Valid, outcome_of, go_ahead_of};
 
 use crate::answer::{Advanced, GoAhead, Progress};
-use crate::core::{Core, Event, Status};
+use crate::inner::{Core, Event, Status};
 use estimator::estimator::Estimator;
 use tables::cause::Cause;
 use task::task::Task;

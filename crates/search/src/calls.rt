@@ -10,7 +10,7 @@ ghost use Rattle.search.specs.Search.{plain_of, find_of, start_outcome, start_go
 ghost use Rattle.search.specs.Plans.{Written};
 
 use crate::answer::{Advanced, Find, GoAhead};
-use crate::core::{Core, Status};
+use crate::inner::{Core, Status};
 use crate::search::Search;
 use estimator::estimator::Estimator;
 use memory::memory::Memory;

@@ -3,8 +3,8 @@
 pub mod advance;
 pub mod answer;
 pub mod calls;
-pub mod core;
 pub mod data;
+pub mod inner;
 pub mod replay;
 pub mod search;
 pub mod start;

@@ -1,7 +1,7 @@
 ghost use Rattle.task.specs.Model.{model};
 ghost use Rattle.search.specs.Search.{Valid};
 
-use crate::core::Core;
+use crate::inner::Core;
 use task::task::Task;
 
 // A search of a task in lent memory.

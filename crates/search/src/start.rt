@@ -7,7 +7,7 @@ ghost use Rattle.memory.specs.Steps.{kind_of};
 ghost use Rattle.search.specs.Search.{plain_of, Valid, start_outcome, start_go_ahead};
 
 use crate::answer::GoAhead;
-use crate::core::{Core, Status};
+use crate::inner::{Core, Status};
 use estimator::estimator::Estimator;
 use plain::fault::Fault;
 use tables::cause::Cause;

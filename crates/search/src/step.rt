@@ -6,7 +6,7 @@ ghost use Rattle.memory.specs.Steps.{kind_of, WithinLimits};
 ghost use Rattle.search.specs.Search.{plain_of, Stepped};
 
 use crate::answer::Find;
-use crate::core::{Core, Event, Status};
+use crate::inner::{Core, Event, Status};
 use estimator::estimator::Estimator;
 use memory::successors::expand;
 use task::task::Task;

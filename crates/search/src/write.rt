@@ -7,7 +7,7 @@ ghost use Rattle.search.specs.Search.{plain_of, find_of, Valid};
 ghost use Rattle.search.specs.Plans.{Written};
 
 use crate::answer::Find;
-use crate::core::{Core, Status};
+use crate::inner::{Core, Status};
 use tables::cause::Cause;
 use task::task::Task;
 use text::{cost_back, digit_count};

@@ -1,4 +1,4 @@
--- The built_in task keeps the rules: it has one variable, and nothing else.
+-- The built-in task keeps the rules: it has one variable, and nothing else.
 use Rattle.std.proofs.Common.{zero, suc, [], ◌∷◌, le_of_suc-le-suc, not-suc-le-zero, lit≤}
 use Rattle.tables.specs.Records.{zero_span}
 use Rattle.tables.specs.Rules.{VariablesFit}

@@ -5,7 +5,7 @@ use Rattle.task.specs.Model.{model}
 use Rattle.plain.specs.declared.fault.Fault.TheVariants.{Set}
 use Rattle.plain.specs.Plain as plain
 use Rattle.plain.specs.Plain.{Plain, reports, Starts.not_fresh, Starts.no_capacity, Starts.wrong_row, Starts.refused_set, Starts.begins}
-use Rattle.search.specs.declared.core.Status.TheVariants.{Fresh}
+use Rattle.search.specs.declared.inner.Status.TheVariants.{Fresh}
 use Rattle.memory.specs.Rows.{nodes_of}
 use Rattle.memory.specs.Steps.{WithinLimits}
 use Rattle.search.specs.Search.{plain_of, status_of}
@@ -16,7 +16,7 @@ use Rattle.search.proofs.Writing.{not-fresh}
 use Rattle.memory.proofs.Starting.{root-limits}
 use Rattle.memory.proofs.Trees.{root-tree}
 use Rattle.search.proofs.Advancing.{stands_at}
-use Rattle.search.proofs.core.Core.start.Goals as goal
+use Rattle.search.proofs.inner.Core.start.Goals as goal
 
 pub returns-then-self-eq0 : goal.returns-then-self-eq0
 returns-then-self-eq0 g c = record { valid = c.requires; untouched = untouched-same c.args.self.now.memory; does = no_capacity (ap status_of c.in-Fresh.is) (omega arith) refl refl refl }

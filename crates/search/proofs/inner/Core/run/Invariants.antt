@@ -2,11 +2,11 @@
 use Rattle.std.proofs.Common.{◌≡◌, ◌-◌, ◌≤◌}
 use Rattle.task.specs.Model.{model}
 use Rattle.plain.specs.Plain.{Expansions}
-use Rattle.search.specs.declared.core.Status.TheVariants.{Running}
+use Rattle.search.specs.declared.inner.Status.TheVariants.{Running}
 use Rattle.memory.specs.Rows.{Consistent, Untouched, nodes_of}
 use Rattle.memory.specs.Steps.{kind_of, WithinLimits}
 use Rattle.search.specs.Search.{plain_of}
-use Rattle.search.proofs.core.Core.run.Given as goal
+use Rattle.search.proofs.inner.Core.run.Given as goal
 
 abbrev pub invariant-loop-made : goal.invariant-loop-made
 invariant-loop-made g l =

@@ -6,7 +6,7 @@ use Rattle.tables.specs.declared.cause.Cause.TheVariants as cause
 use Rattle.plain.specs.Plain as plain
 use Rattle.plain.specs.Plain.{reports, Writes.other, Writes.short, Writes.writes}
 use Rattle.plain.proofs.Whole.{path-one}
-use Rattle.search.specs.declared.core.Status.TheVariants.{Found}
+use Rattle.search.specs.declared.inner.Status.TheVariants.{Found}
 use Rattle.memory.specs.Rows.{nodes_of}
 use Rattle.memory.specs.Plans.{lines, plan_text}
 use Rattle.memory.proofs.Held.{g-is}
@@ -14,7 +14,7 @@ use Rattle.memory.proofs.Lining.{text-length, whole-text}
 use Rattle.search.specs.Search.{plain_of, find_of, status_of}
 use Rattle.search.proofs.Advancing.{stands_at}
 use Rattle.search.proofs.Writing.{not_own, own-node}
-use Rattle.search.proofs.core.Core.write.Goals as goal
+use Rattle.search.proofs.inner.Core.write.Goals as goal
 
 pub returns-in_default : goal.returns-in_default
 returns-in_default c =

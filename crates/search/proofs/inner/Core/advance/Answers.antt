@@ -2,7 +2,7 @@
 use Rattle.std.proofs.Common.{sym, refl, ◌∙◌, subst}
 use lib.ListN.{length-map}
 use Rattle.task.specs.Model.{model}
-use Rattle.search.specs.declared.core.Status.TheVariants.{Running}
+use Rattle.search.specs.declared.inner.Status.TheVariants.{Running}
 use Rattle.memory.specs.Rows.{nodes_of}
 use Rattle.memory.specs.Steps.{kind_of, WithinLimits}
 use Rattle.search.specs.Search.{plain_of, Concludes}
@@ -10,7 +10,7 @@ use Rattle.memory.proofs.Changes.{untouched-same, untouched-both}
 use Rattle.plain.specs.Plain.{Advances.not_running}
 use Rattle.search.proofs.Writing.{not-running}
 use Rattle.search.proofs.Advancing.{advance-of, ran-limits, ran-after, valid-after, stands_at}
-use Rattle.search.proofs.core.Core.advance.Goals as goal
+use Rattle.search.proofs.inner.Core.advance.Goals as goal
 
 pub run-event-requires : goal.run-event-requires
 run-event-requires g c =

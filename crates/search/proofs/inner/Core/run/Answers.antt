@@ -2,14 +2,14 @@
 use Rattle.std.proofs.Common.{◌≡◌, sym, refl, ◌∙◌, subst, arith}
 use Rattle.task.specs.Model.{model}
 use Rattle.plain.specs.Plain.{Expansions}
-use Rattle.search.specs.declared.core.Event.TheVariants.{Expanded}
+use Rattle.search.specs.declared.inner.Event.TheVariants.{Expanded}
 use Rattle.memory.specs.Rows.{nodes_of}
 use Rattle.memory.specs.Steps.{kind_of, WithinLimits}
 use Rattle.search.specs.Search.{plain_of, Stepped, Ran.whole, Ran.stopped}
 use Rattle.memory.proofs.Changes.{untouched-same, untouched-both}
 use Rattle.search.proofs.Stepping.{expands-limits, expansions-snoc}
 use Rattle.search.proofs.Advancing.{stops-of, stepped-room}
-use Rattle.search.proofs.core.Core.run.Goals as goal
+use Rattle.search.proofs.inner.Core.run.Goals as goal
 
 pub step-event-requires : goal.step-event-requires
 step-event-requires g c =

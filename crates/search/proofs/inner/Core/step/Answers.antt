@@ -7,12 +7,12 @@ use Rattle.memory.specs.Steps.{kind_of}
 use Rattle.search.specs.Search.{status_of}
 use Rattle.plain.specs.Plain as plain
 use Rattle.plain.specs.Plain.{Plain}
-use Rattle.search.specs.declared.core.Core.{Core}
+use Rattle.search.specs.declared.inner.Core.{Core}
 use Rattle.memory.proofs.Tables.{front_length}
 use Rattle.memory.proofs.Changes.{untouched-both}
 use Rattle.memory.proofs.Held.{count_of, state-is, g-is}
 use Rattle.search.proofs.Stepping.{taken-state, taken-g, taken-limits, limits-small, expands-of, finds-of, overflows-of}
-use Rattle.search.proofs.core.Core.step.Goals as goal
+use Rattle.search.proofs.inner.Core.step.Goals as goal
 
 abbrev with-nodes : Core → List plain.Node → Plain
 with-nodes s ns = record { status = status_of s.status; nodes = ns; bound = s.bound; total = s.total }
