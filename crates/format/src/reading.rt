@@ -104,6 +104,7 @@ fn zero_from<T: Copy>(records: &mut [T], used: usize, zero: T)
 }
 
 // Reads a task text into the first records and answers how many of them are used.
+#[tactic(auto, unfolding(crate::specs::Whole::task_of))]
 fn read_limited(
     text: &[u8],
     variables: &mut [Variable],

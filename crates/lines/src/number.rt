@@ -59,6 +59,7 @@ fn value(digits: &[u8]) -> u32
 
 impl Number {
     // The number that the bytes write.
+    #[tactic(auto, unfolding(crate::specs::Numbers::number_of))]
     pub fn parse(bytes: &[u8]) -> Option<Number>
         ensures { number_of bytes.now ≡ result }
     {

@@ -1,16 +1,10 @@
-use Rattle.std.proofs.Common.{◌≡◌, ◌-◌, min, true, false, leb, length, take, arith}
+use Rattle.std.proofs.Common.{◌≡◌, ◌-◌, min, true, leb, length, take, arith}
 use borrow.Rule.Slice.PartMut.{post_of}
 use Rattle.std.proofs.lemmas.List.{length-take, take-append-le, length-append}
 use Rattle.std.proofs.lemmas.Result.{err_from_is_err_and}
-use Rattle.std.proofs.lemmas.Bool.{le-leb, lt-leb}
+use Rattle.std.proofs.lemmas.Bool.{le-leb}
 use Rattle.format.specs.Whole.{task_of}
 use Rattle.format.proofs.reading.read_limited.Goals as goal
-
-pub returns-then-text-gt65536 : goal.returns-then-text-gt65536
-unfolding task_of
-returns-then-text-gt65536 c =
-    let long : leb (length c.args.text.now) 65536 ≡ false = lt-leb _ _ (omega arith) in
-    record { reads = rw long; room = tt }
 
 pub returns-in_err-counts : goal.returns-in_err-counts
 unfolding task_of

@@ -1,4 +1,4 @@
-use Rattle.std.proofs.Common.{◌≡◌, true, false, leb, length, arith}
+use Rattle.std.proofs.Common.{◌≡◌, true, leb, length, arith}
 use Rattle.std.proofs.lemmas.Bool.Decides.{nat_tests}
 use Rattle.lines.specs.Numbers.{number_of, all_digits}
 use Rattle.lines.proofs.number.Number.parse.Goals as goal
@@ -10,12 +10,6 @@ returns-then-same c = rw c.if-same.ensures
 pub returns-then-not-is_natural : goal.returns-then-not-is_natural
 unfolding number_of
 returns-then-not-is_natural c = rw (c.if-same.ensures, c.if-not-is_natural.ensures)
-
-pub returns-then-bytes-gt9 : goal.returns-then-bytes-gt9
-unfolding number_of
-returns-then-bytes-gt9 c =
-    let long : leb (length c.args.bytes.now) 9 ≡ false = grind (arith, nat_tests) in
-    rw (c.if-same.ensures, c.if-not-is_natural.ensures, long)
 
 pub value-requires : goal.value-requires
 value-requires c =
