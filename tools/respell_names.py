@@ -7,6 +7,9 @@ Words of definitions, record fields, constructors and ghost members go to snake 
 stays where it joins two names in the name of a lemma, and becomes an underscore in a field or a constructor. Folders of
 specs/ that are modules get a capital. Names of functions in src/ are not touched. It turns whole words in .antt files, in
 clauses of .rt files, and in code spans of README.md and docs/.
+
+It ran once, on what the kit's port.py had made of the repository, and is kept so that the names can be compared with the
+older ones. It is not meant to run again.
 """
 import collections
 import os
