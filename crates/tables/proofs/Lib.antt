@@ -1,4 +1,4 @@
 pub mod Lists
 pub mod Cuts
 pub mod NthLines
-pub mod Decided
+pub mod Told

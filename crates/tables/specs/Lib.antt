@@ -1,5 +1,6 @@
 pub mod Tells
 pub mod Causes
+pub mod Faults
 pub mod Records
 pub mod Rules
 pub mod Lines

@@ -31,3 +31,13 @@ effects_at o = o.first + o.conditions
 
 abbrev pub end_at : Operator → ℕ
 end_at o = o.first + o.conditions + o.effects
+
+-- an operator's conditions, its effects, and both together, among all entries
+abbrev pub conditions_of : List Entry → Operator → List Entry
+conditions_of es o = part es o.first (effects_at o)
+
+abbrev pub effects_of : List Entry → Operator → List Entry
+effects_of es o = part es (effects_at o) (end_at o)
+
+abbrev pub entries_of : List Entry → Operator → List Entry
+entries_of es o = part es o.first (end_at o)

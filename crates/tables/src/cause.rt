@@ -1,25 +1,27 @@
-ghost use Rattle.std.specs.Prelude.{◌≡◌};
+ghost use Rattle.std.specs.Prelude.{◌≡◌, Some};
 ghost use Rattle.tables.specs.Causes.{number_of, name_of};
 
-// Why a call refuses: the whole fault table, in the order of its numbers.
-#[derive(Clone, Copy)]
+use std::fmt;
+
+// Why a call refuses: the whole fault table, each cause with its number.
+#[derive(Clone, Copy, PartialEq, Eq, Debug)]
 pub enum Cause {
-    Long,
-    Cut,
-    Byte,
-    Word,
-    Number,
-    Range,
-    Twice,
-    After,
-    Room,
-    Order,
-    Row,
-    Pattern,
-    Table,
-    Other,
-    Short,
-    Item,
+    Long = 1,
+    Cut = 2,
+    Byte = 3,
+    Word = 4,
+    Number = 5,
+    Range = 6,
+    Twice = 7,
+    After = 8,
+    Room = 9,
+    Order = 10,
+    Row = 11,
+    Pattern = 12,
+    Table = 13,
+    Other = 14,
+    Short = 15,
+    Item = 16,
 }
 
 impl Cause {
@@ -27,47 +29,38 @@ impl Cause {
     pub fn number(self) -> u8
         ensures { result ≡ number_of self }
     {
-        match self {
-            Cause::Long => 1,
-            Cause::Cut => 2,
-            Cause::Byte => 3,
-            Cause::Word => 4,
-            Cause::Number => 5,
-            Cause::Range => 6,
-            Cause::Twice => 7,
-            Cause::After => 8,
-            Cause::Room => 9,
-            Cause::Order => 10,
-            Cause::Row => 11,
-            Cause::Pattern => 12,
-            Cause::Table => 13,
-            Cause::Other => 14,
-            Cause::Short => 15,
-            Cause::Item => 16,
-        }
+        self as u8
     }
 
     // The cause's printed name.
-    pub fn name(self) -> &'static [u8]
+    pub fn name(self) -> &'static str
         ensures { result.now ≡ name_of self }
     {
         match self {
-            Cause::Long => b"LONG",
-            Cause::Cut => b"CUT",
-            Cause::Byte => b"BYTE",
-            Cause::Word => b"WORD",
-            Cause::Number => b"NUMBER",
-            Cause::Range => b"RANGE",
-            Cause::Twice => b"TWICE",
-            Cause::After => b"AFTER",
-            Cause::Room => b"ROOM",
-            Cause::Order => b"ORDER",
-            Cause::Row => b"ROW",
-            Cause::Pattern => b"PATTERN",
-            Cause::Table => b"TABLE",
-            Cause::Other => b"OTHER",
-            Cause::Short => b"SHORT",
-            Cause::Item => b"ITEM",
+            Cause::Long => "LONG",
+            Cause::Cut => "CUT",
+            Cause::Byte => "BYTE",
+            Cause::Word => "WORD",
+            Cause::Number => "NUMBER",
+            Cause::Range => "RANGE",
+            Cause::Twice => "TWICE",
+            Cause::After => "AFTER",
+            Cause::Room => "ROOM",
+            Cause::Order => "ORDER",
+            Cause::Row => "ROW",
+            Cause::Pattern => "PATTERN",
+            Cause::Table => "TABLE",
+            Cause::Other => "OTHER",
+            Cause::Short => "SHORT",
+            Cause::Item => "ITEM",
         }
+    }
+}
+
+impl fmt::Display for Cause {
+    ghost output = { λ cause. Some (name_of cause) };
+
+    fn fmt<W: fmt::Write>(&self, f: &mut fmt::Formatter<W>) -> fmt::Result {
+        f.write_str(self.name())
     }
 }

@@ -6,12 +6,8 @@ pub fn cut_at(bytes: &[u8], separator: u8) -> Option<(&[u8], &[u8])>
     ensures halves { cut_at separator bytes.now ≡ parts result }
     ensures lengths { IfSome result (λ p. length p.0.now + 1 + length p.1.now ≡ length bytes.now) }
 {
-    for (i, b) in bytes.iter().enumerate() {
-        if *b == separator {
-            return Some((&bytes[0..i], &bytes[i + 1..]));
-        }
-    }
-    None
+    let at = bytes.iter().position(|byte| *byte == separator)?;
+    Some((&bytes[..at], &bytes[at + 1..]))
 }
 
 // The first line without its end, and what follows it. Whatever reads lines cuts them off here.
@@ -22,7 +18,8 @@ pub fn cut_line(text: &[u8]) -> Option<(&[u8], &[u8])>
     cut_at(text, b'\n')
 }
 
-// The line of that number, counted from 0, without its end; empty where there are fewer lines.
+// The line of that number, counted from 0, without its end; empty where there are fewer lines. It counts by `cut_line`,
+// so that one place says where a line ends.
 pub fn nth_line(lines: &[u8], index: usize) -> &[u8]
     ensures { result.now ≡ nth_line index lines.now }
 {

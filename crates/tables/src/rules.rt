@@ -1,77 +1,63 @@
 // Whether records keep the rules of a task.
-ghost use Rattle.std.specs.Prelude.{◌≡◌, ℕ, ◌+◌, ◌<◌, ◌≤◌, true, false, length, Some, slice_index_or};
+ghost use Rattle.std.specs.Prelude.{ℕ, ◌<◌, ◌≤◌, length, slice_index_or};
 ghost use Rattle.tables.specs.Tells.{Tells};
-ghost use Rattle.tables.specs.Rules.{SpanFits, VariablesFit, EntriesFit, RequiredFit, Distinct, OperatorsFit, OperatorsDistinct, EntryRules, Rules};
-ghost use Rattle.tables.specs.Records.{zero_operator, end_at};
-ghost use Rattle.tables.specs.Rules.{EntriesInside};
+ghost use Rattle.tables.specs.Rules.{VariableFits, VariablesFit, EntryFits, EntriesFit, RequiredFits, RequiredFit, Distinct, OperatorFits, OperatorsFit, OperatorsDistinct, EntriesInside, EntryRules, Rules};
+ghost use Rattle.tables.specs.Records.{zero_operator, end_at, entries_of};
 
-use super::records::{Entry, Operator, Span, Variable};
+use super::records::{Entry, Operator, Variable};
 
-// Whether the span lies inside a text of that many bytes.
-fn span_fits(span: Span, bytes: usize) -> bool
-    ensures { Tells result (SpanFits bytes span) }
+// Whether the variable has values, the initial one among them, and names inside the text.
+fn variable_fits(variable: &Variable, bytes: usize) -> bool
+    ensures { Tells result (VariableFits bytes variable.now) }
 {
-    span.from <= span.to && span.to <= bytes
+    variable.name.fits(bytes) && variable.values.fits(bytes) && variable.initial < variable.domain
 }
 
-// Whether each variable has values, the initial one among them, and names inside the text.
+// Whether each variable does.
 fn variables_fit(variables: &[Variable], bytes: usize) -> bool
     ensures { Tells result (VariablesFit bytes variables.now) }
 {
-    for variable in variables {
-        if !span_fits(variable.name, bytes) {
-            return false;
-        }
-        if !span_fits(variable.values, bytes) {
-            return false;
-        }
-        if variable.initial >= variable.domain {
-            return false;
-        }
-    }
-    true
+    variables
+        .iter()
+        .all(|variable| variable_fits(variable, bytes))
 }
 
-// Whether each entry names a variable and one of its values.
+// Whether the entry names a variable and one of its values.
+fn entry_fits(entry: &Entry, variables: &[Variable]) -> bool
+    ensures { Tells result (EntryFits variables.now entry.now) }
+{
+    variables
+        .get(entry.variable as usize)
+        .is_some_and(|variable| entry.value < variable.domain)
+}
+
+// Whether each entry does.
 fn entries_fit(entries: &[Entry], variables: &[Variable]) -> bool
     ensures { Tells result (EntriesFit variables.now entries.now) }
 {
-    for entry in entries {
-        let variable = entry.variable as usize;
-        if variable >= variables.len() {
-            return false;
-        }
-        if entry.value >= variables[variable].domain {
-            return false;
-        }
-    }
-    true
+    entries.iter().all(|entry| entry_fits(entry, variables))
 }
 
-// Whether a required value, if any, is one of a variable's.
-fn is_value(required: Option<u8>, domain: u8) -> bool
-    ensures { Tells result ((x : ℕ) → required ≡ Some x → x < domain) }
+// Whether a value that the entry requires is one of its variable's.
+fn required_fits(entry: &Entry, variables: &[Variable]) -> bool
+    ensures { Tells result (RequiredFits variables.now entry.now) }
 {
-    match required {
-        None => true,
-        Some(value) => value < domain,
-    }
+    entry.required.is_none_or(|value| {
+        variables
+            .get(entry.variable as usize)
+            .is_some_and(|variable| value < variable.domain)
+    })
 }
 
-// Whether each required value is one of its variable's.
+// Whether each entry's is.
 fn required_fit(entries: &[Entry], variables: &[Variable]) -> bool
-    requires { EntriesInside entries.now (length variables.now) }
     ensures { Tells result (RequiredFit variables.now entries.now) }
 {
-    for entry in entries {
-        if !is_value(entry.required, variables[entry.variable as usize].domain) {
-            return false;
-        }
-    }
-    true
+    entries.iter().all(|entry| required_fits(entry, variables))
 }
 
-// Whether no variable is named twice: a mark for each variable that was met.
+// Whether no variable is named twice: a mark for each variable that was met. A loop, since a chain's closure that changes
+// the marks would leave its results unknown.
 fn is_distinct(entries: &[Entry]) -> bool
     requires { EntriesInside entries.now 32 }
     ensures { Tells result (Distinct entries.now) }
@@ -87,41 +73,44 @@ fn is_distinct(entries: &[Entry]) -> bool
     true
 }
 
-// Whether each operator has its name inside the text, a price in range, and its entries among so many.
+// Whether the operator has its name inside the text, a price in range, and its entries among so many.
+fn operator_fits(operator: &Operator, bytes: usize, entries: usize) -> bool
+    ensures { Tells result (OperatorFits bytes entries operator.now) }
+{
+    operator.name.fits(bytes)
+        && operator.price <= 65535
+        && operator.first <= entries
+        && operator.conditions <= entries - operator.first
+        && operator.effects <= entries - operator.first - operator.conditions
+}
+
+// Whether each operator does.
 fn operators_fit(operators: &[Operator], bytes: usize, entries: usize) -> bool
     ensures { Tells result (OperatorsFit bytes entries operators.now) }
 {
-    for operator in operators {
-        if !span_fits(operator.name, bytes) {
-            return false;
-        }
-        if operator.price > 65535 {
-            return false;
-        }
-        if operator.first > entries || operator.conditions > entries - operator.first {
-            return false;
-        }
-        if operator.effects > entries - operator.first - operator.conditions {
-            return false;
-        }
-    }
-    true
+    operators
+        .iter()
+        .all(|operator| operator_fits(operator, bytes, entries))
 }
 
-// Whether no operator names a variable twice.
+// Whether the operator names no variable twice.
+fn operator_distinct(operator: &Operator, entries: &[Entry]) -> bool
+    requires inside { EntriesInside entries.now 32 }
+    requires among { end_at operator.now ≤ length entries.now }
+    ensures { Tells result (Distinct (entries_of entries.now operator.now)) }
+{
+    is_distinct(operator.entries_in(entries))
+}
+
+// Whether no operator does.
 fn operators_distinct(operators: &[Operator], entries: &[Entry]) -> bool
     requires inside { EntriesInside entries.now 32 }
     requires among { (k : ℕ) → k < length operators.now → end_at (slice_index_or operators.now k zero_operator) ≤ length entries.now }
     ensures { Tells result (OperatorsDistinct entries.now operators.now) }
 {
-    for operator in operators {
-        let from = operator.first;
-        let to = from + operator.conditions + operator.effects;
-        if !is_distinct(&entries[from..to]) {
-            return false;
-        }
-    }
-    true
+    operators
+        .iter()
+        .all(|operator| operator_distinct(operator, entries))
 }
 
 // Whether goal facts and entries keep the rules, among variables and operators that do.
@@ -135,22 +124,15 @@ fn entries_keep_rules(
     requires among { (k : ℕ) → k < length operators.now → end_at (slice_index_or operators.now k zero_operator) ≤ length entries.now }
     ensures { Tells result (EntryRules variables.now goal.now operators.now entries.now) }
 {
-    if !entries_fit(goal, variables) {
-        return false;
-    }
-    if !is_distinct(goal) {
-        return false;
-    }
-    if !entries_fit(entries, variables) {
-        return false;
-    }
-    if !required_fit(entries, variables) {
-        return false;
-    }
-    operators_distinct(operators, entries)
+    entries_fit(goal, variables)
+        && is_distinct(goal)
+        && entries_fit(entries, variables)
+        && required_fit(entries, variables)
+        && operators_distinct(operators, entries)
 }
 
-// Whether text and records keep the rules of a task.
+// Whether text and records keep the rules of a task. They come one by one, since a struct of them, without the rules,
+// would be a second task.
 pub fn keeps_rules(
     text: &[u8],
     variables: &[Variable],
@@ -160,17 +142,11 @@ pub fn keeps_rules(
 ) -> bool
     ensures { Tells result (Rules text.now variables.now goal.now operators.now entries.now) }
 {
-    if variables.len() < 1 || variables.len() > 32 {
-        return false;
-    }
-    if operators.len() > 256 || entries.len() > 4096 {
-        return false;
-    }
-    if !variables_fit(variables, text.len()) {
-        return false;
-    }
-    if !operators_fit(operators, text.len(), entries.len()) {
-        return false;
-    }
-    entries_keep_rules(variables, goal, operators, entries)
+    !variables.is_empty()
+        && variables.len() <= 32
+        && operators.len() <= 256
+        && entries.len() <= 4096
+        && variables_fit(variables, text.len())
+        && operators_fit(operators, text.len(), entries.len())
+        && entries_keep_rules(variables, goal, operators, entries)
 }

@@ -1,5 +1,5 @@
 -- What operators do, by place; and that a task's states are closed under them.
-use Rattle.std.proofs.Common.{◌≡◌, ℕ, zero, suc, ◌+◌, ◌<◌, ◌≤◌, List, [], ◌∷◌, map, length, get_or, set, sym, refl, ◌∙◌, suc-le-suc, le_of_suc-le-suc, not-suc-le-zero, arith, length-set, get_or-set_other, get_or-set_same}
+use Rattle.std.proofs.Common.{◌≡◌, ◌≢◌, ℕ, Bool, true, false, zero, suc, ◌+◌, ◌<◌, ◌≤◌, List, [], ◌∷◌, map, length, get_or, set, sym, refl, ap, ◌∙◌, suc-le-suc, le_of_suc-le-suc, not-suc-le-zero, arith, length-set, get_or-set_other, get_or-set_same}
 use native.Mathlib.Decide.{ℕ_discrete}
 use lib.ListN.{length-map}
 use Rattle.tables.specs.declared.records.Variable.{Variable}
@@ -7,8 +7,12 @@ use Rattle.tables.specs.declared.records.Operator.{Operator}
 use Rattle.tables.specs.declared.records.Entry.{Entry}
 use Rattle.task.specs.declared.task.Task.{Task}
 use Rattle.tables.specs.Records.{zero_operator, zero_entry, part, effects_at, end_at}
+use Rattle.std.specs.Bool.{OnTrue, OnFalse}
+use Rattle.std.specs.Borrow.{Bor}
+use Rattle.std.specs.Fn.{Shared, FnReturnsAt}
+use Rattle.task.specs.Answers.{Filled}
 use Rattle.task.specs.Model.{Model, model, prices, action, idle, AllHold, Admits, AllAdmit, updated, IsState, Applies, applied, WellFormed, dearest}
-use Rattle.tables.proofs.Lists.{domain-at, initial-at, part_at}
+use Rattle.tables.proofs.Lists.{domain-at, initial-at, part_at, same-list}
 
 pub hold-from : (s : List ℕ) (es : List Entry) → ((k : ℕ) → k < length es → get_or s (get_or es k zero_entry).variable 0 ≡ (get_or es k zero_entry).value) → AllHold s es
 hold-from s [] h = tt
@@ -105,3 +109,13 @@ dearest-low t = go t.operators.now (λ k l. (t.operators_fit k l).1)
     go : (os : List Operator) → ((k : ℕ) → k < length os → (get_or os k zero_operator).price ≤ 65535) → dearest (map (λ o. o.price) (map (action t.entries.now) os)) ≤ 65535
     go [] h = omega arith
     go (o ∷ os) h = omega (arith, h 0 (omega arith), go os (λ k l. h (suc k) (suc-le-suc l)))
+
+-- a row of what a closure answers of each record, where that is the number h of it, holds those numbers; any other row stays
+pub filled : {F X : Type 0} (g : Shared F (Bor X × Unit {0}) ℕ) (f : F) (h : X → ℕ) (xs : List X) (z : X) (zs row after : List ℕ) (r : Bool) → length zs ≡ length xs → ((k : ℕ) → get_or zs k 0 ≡ h (get_or xs k z)) → OnFalse r ((length row ≢ length xs) × (after ≡ row)) → OnTrue r ((length row ≡ length xs) × (length after ≡ length xs)) → OnTrue r ((k : ℕ) → k < length xs → (d : X) (e : ℕ) → FnReturnsAt g f (get_or xs k d) (get_or after k e)) → ((x : Bor X) (n : ℕ) → g.post f (x, tt) n → n ≡ h x.now) → Filled r row zs after
+filled g f h xs z zs row after true l at refused long each is = (
+  omega (arith, long.0),
+  same-list after zs (omega (arith, long.1)) (λ k m.
+      let a = each k (omega (arith, long.1)) z 0 in
+      is a.shown _ a.says.met ∙ (ap h a.shows ∙ sym (at k))),
+)
+filled g f h xs z zs row after false l at refused long each is = (λ e. refused.0 (e ∙ l), refused.1)

@@ -31,7 +31,16 @@ pub record MadeOf (text : List ℕ) (vs : List Variable) (os : List Operator) (e
   pub entries_are : t.entries.now ≡ take n.entries es
   pub model_is : model t ≡ stated (take n.variables vs) (take n.goals es) (take n.operators os) (take n.entries es)
 
--- accepted exactly if the records keep the rules; refused with RANGE and line 0, the task stays
+-- a refusal: RANGE, line 0
+abbrev pub out_of_range : Fault
+out_of_range = record { cause = cause.Range; line = 0; operator = None }
+
+-- accepted exactly if the records keep the rules, and else refused
+abbrev pub Made : List ℕ → List Variable → List Operator → List Entry → Counts → Result Task Fault → Type 0
+Made text vs os es n (Ok t) = Accepts text vs os es n × MadeOf text vs os es n t
+Made text vs os es n (Err f) = (Accepts text vs os es n → ⊥) × (f ≡ out_of_range)
+
+-- the same, in the place of a task, which stays where it is refused
 abbrev pub Put : List ℕ → List Variable → List Operator → List Entry → Counts → Result (Unit {0}) Fault → Task → Task → Type 0
 Put text vs os es n (Ok _) t u = Accepts text vs os es n × MadeOf text vs os es n u
-Put text vs os es n (Err f) t u = (Accepts text vs os es n → ⊥) × (f ≡ record { cause = cause.Range; line = 0; operator = None }) × (u ≡ t)
+Put text vs os es n (Err f) t u = (Accepts text vs os es n → ⊥) × (f ≡ out_of_range) × (u ≡ t)

@@ -14,14 +14,11 @@ fn all_admit(effects: &[Entry], row: &[u8]) -> bool
     requires { EntriesInside effects.now (length row.now) }
     ensures { Tells result (AllAdmit row.now effects.now) }
 {
-    for effect in effects {
-        if let Some(required) = effect.required {
-            if row[effect.variable as usize] != required {
-                return false;
-            }
-        }
-    }
-    true
+    effects.iter().all(|effect| {
+        effect
+            .required
+            .is_none_or(|required| row[effect.variable as usize] == required)
+    })
 }
 
 // Gives each effect's variable its value.
@@ -44,19 +41,12 @@ impl<'a> Task<'a> {
         if row.len() != self.variables.len() {
             return false;
         }
-        if operator >= self.operators.len() {
+        let Some(record) = self.operators.get(operator) else {
             return false;
-        }
-        let record = self.operators[operator];
-        let from = record.first;
-        let middle = from + record.conditions;
-        let to = middle + record.effects;
-        let conditions = &self.entries[from..middle];
-        let effects = &self.entries[middle..to];
-        if !all_hold(conditions, row) {
-            return false;
-        }
-        if !all_admit(effects, row) {
+        };
+        let conditions = record.conditions_in(self.entries);
+        let effects = record.effects_in(self.entries);
+        if !all_hold(conditions, row) || !all_admit(effects, row) {
             return false;
         }
         update(effects, row);
@@ -69,9 +59,6 @@ impl<'a> Task<'a> {
         ensures moved { MovedState result (model self.now) row.old operator row.new }
         ensures state { IsState (model self.now) row.old → IsState (model self.now) row.new }
     {
-        if !self.is_state(row) {
-            return false;
-        }
-        self.apply_to_row(operator, row)
+        self.is_state(row) && self.apply_to_row(operator, row)
     }
 }

@@ -1,5 +1,7 @@
 // Reading a task: its sizes, prices, initial state, and which rows are states and goal states.
-ghost use Rattle.std.specs.Prelude.{◌≡◌, ℕ, ◌<◌, ◌≤◌, length, slice_index};
+ghost use Rattle.std.specs.Prelude.{◌≡◌, ◌≢◌, ℕ, ◌<◌, ◌≤◌, length, slice_index, slice_index_or};
+ghost use Rattle.std.specs.Bool.{OnTrue, OnFalse};
+ghost use Rattle.std.specs.Fn.{FnReturnsAt};
 ghost use Rattle.tables.specs.Tells.{Tells};
 ghost use Rattle.task.specs.Model.{model, prices, IsState, AllHold, IsGoal};
 ghost use Rattle.task.specs.Answers.{IsGoalState, HasGoal, Filled};
@@ -13,10 +15,24 @@ pub(crate) fn all_hold(entries: &[Entry], row: &[u8]) -> bool
     requires { EntriesInside entries.now (length row.now) }
     ensures { Tells result (AllHold row.now entries.now) }
 {
-    for entry in entries {
-        if row[entry.variable as usize] != entry.value {
-            return false;
-        }
+    entries
+        .iter()
+        .all(|entry| row[entry.variable as usize] == entry.value)
+}
+
+// Writes a number of each record into a row of just as many; any other row stays. By place, since after a loop over the
+// row's `iter_mut` and the records a proof knows of the row only its length.
+fn write_each<T, N: Copy, F: Fn(&T) -> N + Drop>(row: &mut [N], records: &[T], number: F) -> bool
+    requires { F.IsAlwaysCallable number }
+    ensures refused { OnFalse result ((length row.old ≢ length records.now) × (row.new ≡ row.old)) }
+    ensures long { OnTrue result ((length row.old ≡ length records.now) × (length row.new ≡ length records.now)) }
+    ensures each { OnTrue result ((k : ℕ) → k < length records.now → (d : T) (e : N) → FnReturnsAt F.Fn number (slice_index_or records.now k d) (slice_index_or row.new k e)) }
+{
+    if row.len() != records.len() {
+        return false;
+    }
+    for (i, record) in records.iter().enumerate() {
+        row[i] = number(record);
     }
     true
 }
@@ -40,10 +56,9 @@ impl<'a> Task<'a> {
     pub fn domain(&self, variable: usize) -> u8
         ensures { result ≡ slice_index (model self.now).domains variable }
     {
-        if variable >= self.variables.len() {
-            return 0;
-        }
-        self.variables[variable].domain
+        self.variables
+            .get(variable)
+            .map_or(0, |record| record.domain)
     }
 
     // The price of the operator of that number; 0 where there is no such operator.
@@ -51,51 +66,34 @@ impl<'a> Task<'a> {
         ensures is { result ≡ slice_index (prices (model self.now)) operator }
         ensures low { result ≤ 65535 }
     {
-        if operator >= self.operators.len() {
-            return 0;
-        }
-        self.operators[operator].price
+        self.operators
+            .get(operator)
+            .map_or(0, |record| record.price)
     }
 
     // Writes the price of each operator into a row of just that many numbers; any other row stays.
     pub fn prices_into(&self, row: &mut [u32]) -> bool
         ensures { Filled result row.old (prices (model self.now)) row.new }
     {
-        if row.len() != self.operators.len() {
-            return false;
-        }
-        for operator in 0..self.operators.len() {
-            row[operator] = self.operators[operator].price;
-        }
-        true
+        write_each(row, self.operators, |operator| operator.price)
     }
 
     // Writes the initial state into a row of one byte a variable; any other row stays.
     pub fn initial_into(&self, row: &mut [u8]) -> bool
         ensures { Filled result row.old (model self.now).initial row.new }
     {
-        if row.len() != self.variables.len() {
-            return false;
-        }
-        for variable in 0..self.variables.len() {
-            row[variable] = self.variables[variable].initial;
-        }
-        true
+        write_each(row, self.variables, |variable| variable.initial)
     }
 
     // Whether the row is a state: one value for each variable.
     pub fn is_state(&self, row: &[u8]) -> bool
         ensures { Tells result (IsState (model self.now) row.now) }
     {
-        if row.len() != self.variables.len() {
-            return false;
-        }
-        for variable in 0..row.len() {
-            if row[variable] >= self.variables[variable].domain {
-                return false;
-            }
-        }
-        true
+        row.len() == self.variables.len()
+            && row
+                .iter()
+                .zip(self.variables)
+                .all(|(value, variable)| *value < variable.domain)
     }
 
     // Whether a row of one byte a variable has every goal fact. Of a state this says whether it is a goal state,
@@ -103,19 +101,13 @@ impl<'a> Task<'a> {
     pub fn has_goal(&self, row: &[u8]) -> bool
         ensures { HasGoal result (model self.now) row.now }
     {
-        if row.len() != self.variables.len() {
-            return false;
-        }
-        all_hold(self.goal, row)
+        row.len() == self.variables.len() && all_hold(self.goal, row)
     }
 
     // Whether the row is a goal state.
     pub fn is_goal_state(&self, row: &[u8]) -> bool
         ensures { Tells result (IsGoalState (model self.now) row.now) }
     {
-        if !self.is_state(row) {
-            return false;
-        }
-        self.has_goal(row)
+        self.is_state(row) && self.has_goal(row)
     }
 }

@@ -7,7 +7,7 @@ use super::task::Task;
 
 // How a walk went: how many operators applied in turn, their total price, cut at the largest of 32 bits, and whether
 // it ended in a goal state.
-#[derive(Clone, Copy)]
+#[derive(Clone, Copy, PartialEq, Eq, Debug)]
 pub struct Walked {
     pub steps: usize,
     pub cost: u32,

@@ -1,13 +1,15 @@
 use super::sofa;
+use super::sofa::COUNTS;
 use tables::cause::Cause;
+use tables::fault::Fault;
 use tables::records::{Counts, Entry, Operator, Span, Variable};
 use task::task::Task;
 
-const COUNTS: Counts = Counts {
-    variables: 2,
-    goals: 1,
-    operators: 4,
-    entries: 6,
+// RANGE at line 0.
+const REFUSAL: Fault = Fault {
+    cause: Cause::Range,
+    line: 0,
+    operator: None,
 };
 
 // Whether making refuses with RANGE at line 0 and leaves the built-in task.
@@ -18,14 +20,9 @@ fn refuses<'x>(
     counts: Counts,
 ) -> bool {
     let mut task = Task::built_in();
-    match task.put(sofa::TEXT, variables, operators, entries, counts) {
-        Ok(()) => false,
-        Err(fault) => fault.cause.number() == Cause::Range.number()
-            && fault.line == 0
-            && fault.operator.is_none()
-            && task.variable_count() == 1
-            && task.operator_count() == 0,
-    }
+    task.put(sofa::TEXT, variables, operators, entries, counts) == Err(REFUSAL)
+        && task.variable_count() == 1
+        && task.operator_count() == 0
 }
 
 // The same with one variable record in the place of the first.
@@ -45,8 +42,8 @@ fn refuses_operator(operator: Operator) -> bool {
 // The same with one entry in that place.
 fn refuses_entry(at: usize, entry: Entry) -> bool {
     let mut entries = sofa::ENTRIES;
-    if at < 6 {
-        entries[at] = entry;
+    if let Some(place) = entries.get_mut(at) {
+        *place = entry;
     }
     refuses(&sofa::VARIABLES, &sofa::OPERATORS, &entries, COUNTS)
 }
@@ -262,4 +259,20 @@ fn empty_records(rt: HostRuntime) {
             },
         )
     );
+}
+
+#[test]
+fn new_refuses_as_put_does(rt: HostRuntime) {
+    let counts = Counts {
+        variables: 3,
+        ..COUNTS
+    };
+    let made = Task::new(
+        sofa::TEXT,
+        &sofa::VARIABLES,
+        &sofa::OPERATORS,
+        &sofa::ENTRIES,
+        counts,
+    );
+    assert_eq!(rt; made.err(), Some(REFUSAL));
 }

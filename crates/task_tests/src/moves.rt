@@ -1,8 +1,9 @@
 use super::sofa;
+use task::walk::Walked;
 
 #[test]
 fn operators_apply(rt: HostRuntime) {
-    let task = sofa::task();
+    let task = sofa::task(&rt);
     let mut row = [0u8, 0];
     assert!(rt; !task.apply(1, &mut row));
     assert_eq!(rt; row, [0, 0]);
@@ -18,7 +19,7 @@ fn operators_apply(rt: HostRuntime) {
 
 #[test]
 fn rows_that_are_no_states_stay(rt: HostRuntime) {
-    let task = sofa::task();
+    let task = sofa::task(&rt);
     let mut high = [0u8, 2];
     assert!(rt; !task.apply(3, &mut high));
     assert_eq!(rt; high, [0, 2]);
@@ -34,7 +35,7 @@ fn rows_that_are_no_states_stay(rt: HostRuntime) {
 
 #[test]
 fn prices_and_sizes(rt: HostRuntime) {
-    let task = sofa::task();
+    let task = sofa::task(&rt);
     let mut prices = [0u32; 4];
     assert!(rt; task.prices_into(&mut prices));
     assert_eq!(rt; prices, [1, 3, 2, 7]);
@@ -51,7 +52,7 @@ fn prices_and_sizes(rt: HostRuntime) {
 
 #[test]
 fn names_are_parts_of_the_text(rt: HostRuntime) {
-    let task = sofa::task();
+    let task = sofa::task(&rt);
     assert_eq!(rt; task.variable_name(1), Some(&b"door"[..]));
     assert_eq!(rt; task.variable_name(2), None);
     assert_eq!(rt; task.value_name(0, 2), Some(&b"loft"[..]));
@@ -65,15 +66,36 @@ fn names_are_parts_of_the_text(rt: HostRuntime) {
 
 #[test]
 fn walks(rt: HostRuntime) {
-    let task = sofa::task();
+    let task = sofa::task(&rt);
     let mut row = [0u8, 0];
     let whole = task.walk(&[0, 1, 2], &mut row);
-    assert!(rt; whole.steps == 3 && whole.cost == 6 && whole.goal);
+    assert_eq!(rt;
+        whole,
+        Walked {
+            steps: 3,
+            cost: 6,
+            goal: true
+        }
+    );
     let mut row = [0u8, 0];
     let broken = task.walk(&[0, 2, 1], &mut row);
-    assert!(rt; broken.steps == 1 && broken.cost == 1 && !broken.goal);
+    assert_eq!(rt;
+        broken,
+        Walked {
+            steps: 1,
+            cost: 1,
+            goal: false
+        }
+    );
     assert_eq!(rt; row, [0, 1]);
     let mut row = [0u8, 5];
     let none = task.walk(&[3], &mut row);
-    assert!(rt; none.steps == 0 && none.cost == 0 && !none.goal);
+    assert_eq!(rt;
+        none,
+        Walked {
+            steps: 0,
+            cost: 0,
+            goal: false
+        }
+    );
 }

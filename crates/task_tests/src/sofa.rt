@@ -1,4 +1,5 @@
 // The worked example: a sofa to carry from the hall to the loft, by way of the den through a door, or by a hoist.
+use std::process::Abort;
 use tables::records::{Counts, Entry, Operator, Span, Variable};
 use task::task::Task;
 
@@ -86,15 +87,15 @@ pub const OPERATORS: [Operator; 4] = [
     },
 ];
 
+// How many of the records the task uses.
+pub const COUNTS: Counts = Counts {
+    variables: 2,
+    goals: 1,
+    operators: 4,
+    entries: 6,
+};
+
 // The task of these records.
-pub fn task() -> Task<'static> {
-    let mut task = Task::built_in();
-    let counts = Counts {
-        variables: 2,
-        goals: 1,
-        operators: 4,
-        entries: 6,
-    };
-    let _ = task.put(TEXT, &VARIABLES, &OPERATORS, &ENTRIES, counts);
-    task
+pub fn task(rt: &impl Abort) -> Task<'static> {
+    Task::new(TEXT, &VARIABLES, &OPERATORS, &ENTRIES, COUNTS).expect(rt, "the sofa is a task")
 }

@@ -1,5 +1,5 @@
 -- The goal facts are tested in a row of one byte a variable.
-use Rattle.std.proofs.Common.{Bool, true, false, MatchBool, sym, ◌∙◌, arith}
+use Rattle.std.proofs.Common.{Bool, true, false, MatchBool, sym, ◌∙◌}
 use lib.ListN.{length-map}
 use Rattle.task.specs.Model.{IsGoal}
 use Rattle.task.proofs.task.Task.has_goal.Goals as goal
@@ -9,14 +9,8 @@ with_first : (A B : Type 0) (r : Bool) → A → MatchBool r B (B → ⊥) → M
 with_first A B true a h = (a, h)
 with_first A B false a h = λ p. h p.1
 
-pub all_hold-requires : goal.all_hold-requires
-all_hold-requires c = λ k l. let f = (c.args.self.now.goal_fits k l).0 in omega arith
-
 pub returns-then-row-self : goal.returns-then-row-self
-returns-then-row-self c = λ p. let l = length-map c.args.self.now.variables.now (λ v. v.domain) in let e = p.0 in omega arith
-
-pub returns : goal.returns
 unfolding IsGoal
-returns c =
-    let e = c.if-row-self.false ∙ sym (length-map c.args.self.now.variables.now (λ v. v.domain)) in
+returns-then-row-self c =
+    let e = c.if-row-self.true ∙ sym (length-map c.args.self.now.variables.now (λ v. v.domain)) in
     with_first _ _ c.all_hold.result e c.all_hold.ensures
