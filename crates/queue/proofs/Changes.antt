@@ -6,7 +6,8 @@ use Rattle.std.specs.Map.{update}
 use Rattle.queue.specs.Heap.{parent, Room, Indexed, HeapOrdered, OrderedButAbove, OrderedButBelow}
 use Rattle.queue.specs.Content.{held}
 use Rattle.queue.specs.Sifting.{Missing, At}
-use Rattle.queue.proofs.Order.{TotalOrder, compared, there}
+use Rattle.queue.specs.Lawful.Orders.{TotalOrder}
+use Rattle.queue.proofs.Order.{compared, there}
 use Rattle.queue.proofs.Held.{held_none, held-some, held_same, one_place, updated}
 use Rattle.queue.proofs.Pigeon.{room-left}
 

@@ -1,9 +1,10 @@
 -- The top of the heap is a first entry of the queue.
 use Rattle.std.proofs.Common.{◌≡◌, ℕ, ◌+◌, ◌<◌, Bool, get_or, Some, None, Option, refl, ⊎_elim, arith}
-use Rattle.queue.specs.declared.Queue.{Queue}
+use Rattle.queue.specs.declared.indexed.Heap.{Heap}
 use Rattle.queue.specs.Content.{content, Sound, First}
 use Rattle.queue.proofs.Held.{held_none, held-some, either}
-use Rattle.queue.proofs.Order.{TotalOrder, least-top, compared}
+use Rattle.queue.specs.Lawful.Orders.{TotalOrder}
+use Rattle.queue.proofs.Order.{least-top, compared}
 
 same_some : {X : Type 0} (o : Option X) (x y : X) → o ≡ Some x → o ≡ Some y → x ≡ y
 same_some o x y p q = cc
@@ -11,7 +12,7 @@ same_some o x y p q = cc
 pub some-none : {X : Type 0} (o : Option X) (x : X) → o ≡ Some x → o ≡ None → ⊥
 some-none o x p q = let z : ◌≡◌ {A = ℕ} 0 1 = cc in omega arith
 
-pub first-held : {X : Type 0} (item_of : X → ℕ) (no_later : X → X → Bool) (o : TotalOrder no_later) (q : Queue X) (d : X) → 0 < q.len → Sound item_of no_later q
+pub first-held : {X : Type 0} (item_of : X → ℕ) (no_later : X → X → Bool) (o : TotalOrder no_later) (q : Heap X) (d : X) → 0 < q.len → Sound item_of no_later q
     → First item_of no_later q (get_or q.entries.now 0 d)
 first-held item_of no_later o q d pos s =
     let xs = q.entries.now in

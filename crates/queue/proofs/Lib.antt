@@ -5,5 +5,4 @@ pub mod Exchange
 pub mod Carrying
 pub mod Changes
 pub mod First
-pub mod Props
 pub mod Uses

@@ -1,12 +1,8 @@
 -- How the order of the heap fares when two entries change places, and that its top comes first.
 use Rattle.std.proofs.Common.{◌≡◌, ℕ, zero, suc, ◌+◌, ◌*◌, ◌<◌, ◌≤◌, Bool, true, false, List, length, get_or, sym, refl, ap, ◌∙◌, ⊎_elim, arith}
 use Rattle.std.proofs.lemmas.Bool.{cases_eq, cases_Bool}
+use Rattle.queue.specs.Lawful.Orders.{TotalOrder}
 use Rattle.queue.specs.Heap.{parent, HeapOrdered, OrderedButAbove, OrderedButBelow}
-
--- The laws of an order that the heap needs.
-pub record TotalOrder {X : Type 0} (no_later : X → X → Bool) : Type 0 where
-  pub total : (x y : X) → no_later x y ≡ false → no_later y x ≡ true
-  pub transitive : (x y z : X) → no_later x y ≡ true → no_later y z ≡ true → no_later x z ≡ true
 
 -- The entries at a and b have changed places.
 pub record Exchanged {X : Type 0} (xs ys : List X) (a b : ℕ) : Type 0 where

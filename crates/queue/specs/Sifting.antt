@@ -1,6 +1,6 @@
 -- What the inner calls of a queue do: they look an item up, and sift an entry from a hole in the heap to where it belongs.
 use Rattle.std.specs.Prelude.{◌≡◌, ℕ, ◌<◌, Bool, true, List, take, Some, None, Option, ◌≢◌, slice_index_or, slice_set}
-use Rattle.queue.specs.declared.Queue.{Queue}
+use Rattle.queue.specs.declared.indexed.Heap.{Heap}
 use Rattle.queue.specs.Heap.{parent, Indexed}
 use Rattle.queue.specs.Content.{held, content, Sound, Rows}
 
@@ -25,12 +25,12 @@ pub record LeastChild {X : Type 0} (no_later : X → X → Bool) (entries : List
   pub least : (j : ℕ) (d : X) → 0 < j → j < count → parent j ≡ i → no_later (slice_index_or entries c d) (slice_index_or entries j d) ≡ true
 
 -- The places are right once x stands in the hole, which is for x to fill.
-pub record Hole {X : Type 0} (item_of : X → ℕ) (q : Queue X) (hole : ℕ) (x : X) : Type 0 where
+pub record Hole {X : Type 0} (item_of : X → ℕ) (q : Heap X) (hole : ℕ) (x : X) : Type 0 where
   pub within : hole < q.len
   pub indexed : Indexed item_of (slice_set q.entries.now hole x) (slice_set q.places.now (item_of x) hole) q.len
 
 -- q holds what p does with x written into the hole.
-pub record Filled {X : Type 0} (item_of : X → ℕ) (no_later : X → X → Bool) (p q : Queue X) (hole : ℕ) (x : X) : Type 0 where
+pub record Filled {X : Type 0} (item_of : X → ℕ) (no_later : X → X → Bool) (p q : Heap X) (hole : ℕ) (x : X) : Type 0 where
   pub sound : Sound item_of no_later q
   pub rows : Rows p q
   pub len : q.len ≡ p.len

@@ -1,11 +1,11 @@
 // The entries of the search's open list and of the distances in a projection.
 ghost use Rattle.queue.specs.Entries.{search_item, search_no_later, rank_item, rank_no_later};
-ghost use Rattle.queue.specs.Lawful.Orders.{search-total, search-transitive, search-antisymmetric, rank-total, rank-transitive, rank-antisymmetric};
+ghost use Rattle.std.proofs.Common.{rules};
 
 use crate::QueueEntry;
 
 // A node of the search that waits for its expansion; f is its path cost plus its estimate.
-#[derive(Clone, Copy)]
+#[derive(Clone, Copy, Default, PartialEq, Eq, PartialOrd, Ord)]
 pub struct SearchEntry {
     pub f: u64,
     pub estimate: u32,
@@ -17,29 +17,17 @@ impl QueueEntry for SearchEntry {
 
     ghost no_later = { search_no_later };
 
-    ghost total = { search-total };
+    ghost matches_cmp = { Prim.search rules };
 
-    ghost transitive = { search-transitive };
-
-    ghost antisymmetric = { search-antisymmetric };
+    ghost no_ties = { Prim.search rules };
 
     fn item(&self) -> u32 {
         self.node
     }
-
-    fn no_later_than(&self, other: &Self) -> bool {
-        if self.f != other.f {
-            return self.f < other.f;
-        }
-        if self.estimate != other.estimate {
-            return self.estimate < other.estimate;
-        }
-        self.node <= other.node
-    }
 }
 
 // An abstract state by its rank, with the least known cost from it to an abstract goal.
-#[derive(Clone, Copy)]
+#[derive(Clone, Copy, Default, PartialEq, Eq, PartialOrd, Ord)]
 pub struct RankEntry {
     pub distance: u32,
     pub rank: u32,
@@ -50,20 +38,11 @@ impl QueueEntry for RankEntry {
 
     ghost no_later = { rank_no_later };
 
-    ghost total = { rank-total };
+    ghost matches_cmp = { Prim.search rules };
 
-    ghost transitive = { rank-transitive };
-
-    ghost antisymmetric = { rank-antisymmetric };
+    ghost no_ties = { Prim.search rules };
 
     fn item(&self) -> u32 {
         self.rank
-    }
-
-    fn no_later_than(&self, other: &Self) -> bool {
-        if self.distance != other.distance {
-            return self.distance < other.distance;
-        }
-        self.rank <= other.rank
     }
 }

@@ -50,9 +50,11 @@ put-outside p q list x (Ok _) agree put past = let b : ⊥ = omega (arith, put.t
 put-outside p q list x (Err _) agree put past = subst (λ z. Agree z list) (sym put.same) agree
 
 pub taken-inside : (p q : Queue SearchEntry) (list : List (Option SearchEntry)) (x : SearchEntry)
-    → Agree p list → FirstTaken search_item search_no_later p q x → length list ≤ x.node → ⊥
-taken-inside p q list x agree taken past =
-    some-none (content search_item p x.node) x taken.first.here (agree.same x.node ∙ get_or_past list x.node None past)
+    → Agree p list → FirstTaken search_item search_no_later p q x → x.node < length list
+taken-inside p q list x agree taken =
+    ⊎_elim (λ l. l)
+    (λ past. absurd (some-none (content search_item p x.node) x taken.first.here (agree.same x.node ∙ get_or_past list x.node None past)))
+    (cases_lt x.node (length list))
 
 pub empty-list : (q : Queue SearchEntry) (n : ℕ) → ((k : ℕ) → content search_item q k ≡ None) → length q.entries.now ≡ n → length q.places.now ≡ n
     → Agree q (replicate n None)

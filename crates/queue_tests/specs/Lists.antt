@@ -1,8 +1,8 @@
 -- The plain list that a queue is held against: at each index the entry of that item, or none.
-use Rattle.std.specs.Prelude.{◌≡◌, ℕ, ◌+◌, cond, List, length, Some, None, fold, Option, slice_index_or}
+use Rattle.std.specs.Prelude.{◌≡◌, ℕ, cond, List, length, Some, None, is_some, count_by, fold, Option, slice_index_or}
 use Rattle.queue.specs.declared.Queue.{Queue}
 use Rattle.queue.specs.declared.entries.SearchEntry.{SearchEntry}
-use Rattle.queue.specs.Content.{content, counted}
+use Rattle.queue.specs.Content.{content}
 use Rattle.queue.specs.Entries.{search_item, search_no_later}
 
 -- The queue and the list hold the same entries, and have room for the same items.
@@ -22,4 +22,4 @@ least_of = fold earlier_of None
 
 -- How many slots hold an entry.
 abbrev pub held_in : List (Option SearchEntry) → ℕ
-held_in = fold (λ n slot. n + counted slot) 0
+held_in = count_by is_some

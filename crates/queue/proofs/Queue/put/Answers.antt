@@ -1,82 +1,41 @@
 -- An entry of a new item goes to the end, any other into the place of its item's entry.
-use Rattle.std.proofs.Common.{◌+◌, ◌^◌, ◌<◌, ap, ◌∙◌, subst, arith}
-use Rattle.queue.specs.Heap.{Room}
-use Rattle.queue.specs.Content.{counted}
+use Rattle.std.proofs.Common.{◌+◌, ap, ◌∙◌, refl, arith}
+use Rattle.queue.specs.Content.{Takes, counted}
 use Rattle.queue.specs.Sifting.{Missing, At}
 use Rattle.queue.proofs.Held.{held_none, held-some}
-use Rattle.queue.proofs.Changes.{indexed-end, ordered_end, held-end, indexed-put, held-put}
+use Rattle.queue.proofs.Changes.{indexed-put, held-put}
 use Rattle.queue.proofs.Queue.put.Goals as goal
 
-pub refill-requires : goal.refill-requires
-refill-requires g c =
-    let item_of = g.T.QueueEntry.item_of in
-    let q = c.args.self.now in
-    let at : At item_of q.entries.now q.len (item_of c.args.entry) c.in-Some.place =
-    subst (λ z. At item_of q.entries.now q.len z c.in-Some.place) c.item-item.ensures c.in-Some.ensures in
-    record {
-      hole = record {
-        within = at.within;
-        indexed = indexed-put item_of q.entries.now q.places.now q.len c.in-Some.place c.args.entry c.requires.indexed at;
-      };
-      ordered = c.requires.ordered;
-    }
+pub refill-requires-clause-hole : goal.refill-requires-clause-hole
+refill-requires-clause-hole g c =
+    let q = c.self.inside.heap in
+    let at : At g.T.QueueEntry.item_of q.entries.now q.len (g.T.QueueEntry.item_of c.args.entry) c.in-Some.place = rw (← c.item-item.ensures) c.in-Some.ensures in
+    record { within = at.within; indexed = indexed-put _ q.entries.now q.places.now q.len c.in-Some.place c.args.entry c.self.invariant.indexed at }
 
-pub returns-in-Some : goal.returns-in-Some
-returns-in-Some g c =
+pub returns-in-Some-clause-put : goal.returns-in-Some-clause-put
+returns-in-Some-clause-put g c =
     let item_of = g.T.QueueEntry.item_of in
-    let q = c.args.self.now in
+    let q = c.self.inside.heap in
     let e = c.args.entry in
-    let at : At item_of q.entries.now q.len (item_of e) c.in-Some.place =
-    subst (λ z. At item_of q.entries.now q.len z c.in-Some.place) c.item-item.ensures c.in-Some.ensures in
-    let some = held-some c.requires.indexed (item_of e) c.in-Some.place e at.within (at.is_for e) in
-    record {
-      sound = c.refill.ensures.sound;
-      rows = c.refill.ensures.rows;
-      put = record {
-        takes = record { in_entries = omega (arith, c.if-k-self.false, c.item-item.ensures); in_places = omega (arith, c.if-k-self-2.false, c.item-item.ensures) };
-        changed = λ k. c.refill.ensures.holds k ∙ held-put item_of q.entries.now q.places.now q.len c.in-Some.place e c.requires.indexed at k;
-        resized = ap (λ z. c.refill.new.self.len + counted z) some ∙ omega (arith, c.refill.ensures.len);
-      };
-    }
+    let ix = c.self.invariant.indexed in
+    let takes : Takes q (item_of e) = rw (← c.item-item.ensures) (c.if-not-takes.ensures.inside refl) in
+    let at : At item_of q.entries.now q.len (item_of e) c.in-Some.place = rw (← c.item-item.ensures) c.in-Some.ensures in
+    let some = held-some ix (item_of e) c.in-Some.place e at.within (at.is_for e) in
+    rw (← c.self.view_is) (record {
+      takes = takes;
+      changed = λ k. c.refill.ensures.holds k ∙ held-put item_of q.entries.now q.places.now q.len c.in-Some.place e ix at k;
+      resized = ap (λ z. c.refill.new.self.len + counted z) some ∙ omega (arith, c.refill.ensures.len);
+    })
 
-pub sift_up-requires : goal.sift_up-requires
-sift_up-requires g c =
+pub returns-clause-put : goal.returns-clause-put
+returns-clause-put g c =
     let item_of = g.T.QueueEntry.item_of in
-    let q = c.args.self.now in
-    let e = c.args.entry in
-    let fresh : Missing item_of q.entries.now q.len (item_of e) =
-    subst (Missing item_of q.entries.now q.len) c.item-item.ensures c.in_default.ensures in
-    let room : Room q.entries.now q.places.now (item_of e) = record {
-      in_entries = omega (arith, c.if-k-self.false, c.item-item.ensures);
-      in_places = omega (arith, c.if-k-self-2.false, c.item-item.ensures);
-    } in
-    let number : item_of e < 2 ^ 32 = omega (arith, c.item-item.type_inv, c.item-item.ensures) in
-    record {
-      hole = record {
-        within = omega arith;
-        indexed = indexed-end item_of q.entries.now q.places.now q.len e c.requires.indexed room number fresh;
-      };
-      ordered = ordered_end item_of q.entries.now q.places.now q.len e c.requires.indexed room number fresh g.T.QueueEntry.no_later c.requires.ordered;
-    }
-
-pub returns : goal.returns
-returns g c =
-    let item_of = g.T.QueueEntry.item_of in
-    let q = c.args.self.now in
-    let e = c.args.entry in
-    let fresh : Missing item_of q.entries.now q.len (item_of e) =
-    subst (Missing item_of q.entries.now q.len) c.item-item.ensures c.in_default.ensures in
-    let room : Room q.entries.now q.places.now (item_of e) = record {
-      in_entries = omega (arith, c.if-k-self.false, c.item-item.ensures);
-      in_places = omega (arith, c.if-k-self-2.false, c.item-item.ensures);
-    } in
-    let number : item_of e < 2 ^ 32 = omega (arith, c.item-item.type_inv, c.item-item.ensures) in
-    record {
-      sound = c.sift_up.ensures.sound;
-      rows = record { entries = c.sift_up.ensures.rows.entries; places = c.sift_up.ensures.rows.places };
-      put = record {
-        takes = room;
-        changed = λ k. c.sift_up.ensures.holds k ∙ held-end item_of q.entries.now q.places.now q.len e c.requires.indexed room number fresh k;
-        resized = ap (λ z. c.sift_up.new.self.len + counted z) (held_none c.requires.indexed (item_of e) fresh) ∙ omega (arith, c.sift_up.ensures.len);
-      };
-    }
+    let q = c.self.inside.heap in
+    let takes : Takes q (item_of c.args.entry) = rw (← c.item-item.ensures) (c.if-not-takes.ensures.inside refl) in
+    let fresh : Missing item_of q.entries.now q.len (item_of c.args.entry) = rw (← c.item-item.ensures) c.in_default.ensures in
+    let none = held_none c.self.invariant.indexed (item_of c.args.entry) fresh in
+    rw (← c.self.view_is) (record {
+      takes = takes;
+      changed = c.append.ensures.changed;
+      resized = ap (λ z. c.append.new.self.len + counted z) none ∙ omega (arith, c.append.ensures.len);
+    })

@@ -2,7 +2,7 @@
 use Rattle.std.proofs.Common.{◌-◌, set}
 use Rattle.queue.specs.Heap.{OrderedButBelow}
 use Rattle.queue.proofs.Carrying.{Carrying}
-use Rattle.queue.proofs.Queue.sift_down.Given as goal
+use Rattle.queue.proofs.indexed.Heap.sift_down.Given as goal
 
 abbrev pub invariant-loop-hole : goal.invariant-loop-hole
 invariant-loop-hole g l =
