@@ -1,12 +1,12 @@
 -- A set that is accepted and then an ask bound the cost at offered prices, by the laws of any estimator.
 use Rattle.std.proofs.Common.{ℕ, List, Ok, Option}
 use Rattle.task.specs.Model.{Model}
-use Rattle.estimator.specs.Laws.{Laws, HoldsT, SetsT, AnswersT}
+use Rattle.estimator.specs.Laws.{Meaning, Laws}
 use Rattle.estimator.specs.Bound.{Bound}
 use Rattle.estimator.specs.Lawful.Rows.{at-offer}
 
-pub bound-by-laws : {E : Type 0} {unset : E → Type 0} {holds : HoldsT E} {sets : SetsT E} {answers : AnswersT E} {entry between exit : E} {T : Model} {offered left row : List ℕ} {a : Option ℕ}
-    → Laws unset holds sets answers → sets entry T offered 1 (Ok tt) left between → answers between T row a exit → Bound holds sets answers entry T offered left row a exit
+pub bound-by-laws : {E : Type 0} {m : Meaning E} {entry between exit : E} {T : Model} {offered left row : List ℕ} {a : Option ℕ}
+    → Laws m → m.sets entry T offered 1 (Ok tt) left between → m.answers between T row a exit → Bound m entry T offered left row a exit
 bound-by-laws {between = between} {T = T} {offered = offered} {left = left} {row = row} {a = a} laws x y =
     let taken = laws.accepts x in
     record {

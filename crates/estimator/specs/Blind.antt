@@ -3,6 +3,7 @@ use Rattle.std.specs.Prelude.{◌≡◌, ℕ, true, false, List, length, replica
 use Rattle.task.specs.Model.{Model}
 use Rattle.tables.specs.declared.cause.Cause.TheVariants.{Row}
 use Rattle.estimator.specs.Price.{Offer}
+use Rattle.estimator.specs.Laws.{Meaning}
 use Rattle.estimator.specs.declared.fault.SetFault.{SetFault}
 use Rattle.estimator.specs.declared.blind.Blind.{Blind}
 
@@ -20,3 +21,6 @@ pub data Sets (s : Blind) (T : Model) (row : List ℕ) (n : ℕ) (r : Result (Un
 
 abbrev pub Answers : Blind → Model → List ℕ → Option ℕ → Blind → Type 0
 Answers s T row a s' = (a ≡ Some 0) × (s' ≡ s)
+
+abbrev pub blind : Meaning Blind
+blind = record { unset = Unset; holds = Holds; sets = Sets; answers = Answers }

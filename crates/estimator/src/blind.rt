@@ -1,4 +1,4 @@
-ghost use Rattle.estimator.specs.Blind.{Unset, Holds, Sets, Answers};
+ghost use Rattle.estimator.specs.Blind.{Unset, blind};
 ghost use Rattle.estimator.specs.Lawful.Blind.{blind-laws};
 
 use super::estimator::Estimator;
@@ -10,6 +10,7 @@ use task::task::Task;
 // Holds 0 for every operator, and answers 0.
 #[derive(Drop)]
 pub struct Blind {
+    // A flag and no Option, since a blind estimator that is set has nothing that an unset one has not.
     ready: bool,
 }
 
@@ -25,27 +26,16 @@ impl Blind {
 impl Estimator for Blind {
     const KIND: u8 = 1;
 
-    ghost unset = { Unset };
-
-    ghost holds = { Holds };
-
-    ghost sets = { Sets };
-
-    ghost answers = { Answers };
+    ghost meaning = { blind };
 
     ghost laws = { blind-laws };
 
     fn set(&mut self, task: &Task<'_>, row: &mut [u32], layer: u16) -> Result<(), SetFault> {
         self.ready = is_offer(task, row);
-        if self.ready {
-            Ok(())
-        } else {
-            Err(SetFault {
-                cause: Cause::Row,
-                kind: Self::KIND,
-                layer,
-            })
+        if !self.ready {
+            return Err(SetFault::new(Cause::Row, Self::KIND, layer));
         }
+        Ok(())
     }
 
     fn estimate(&mut self, _task: &Task<'_>, _state: &[u8]) -> Option<u32> {

@@ -14,7 +14,7 @@ pub fn lower_bound<E: Estimator>(
     row: &mut [u32],
     state: &[u8],
 ) -> Result<Option<u32>, SetFault>
-    ensures { MatchResult result (λ answer. Bound E.holds E.sets E.answers estimator.old (model task.now) row.old row.new state.now answer estimator.new) (λ fault. Refused E.unset E.sets estimator.old (model task.now) row.old row.new fault estimator.new) }
+    ensures { MatchResult result (λ answer. Bound E.meaning estimator.old (model task.now) row.old row.new state.now answer estimator.new) (λ fault. Refused E.meaning estimator.old (model task.now) row.old row.new fault estimator.new) }
 {
     estimator.set(task, row, 1)?;
     Ok(estimator.estimate(task, state))

@@ -12,13 +12,5 @@ pub fn is_offer(task: &Task<'_>, row: &[u32]) -> bool
     ensures few { result ≡ true → length row.now ≤ 256 }
     ensures cases { MatchBool result (Offer (model task.now) row.now) (Offer (model task.now) row.now → ⊥) }
 {
-    if row.len() != task.operator_count() {
-        return false;
-    }
-    for price in row {
-        if *price > HIGHEST {
-            return false;
-        }
-    }
-    true
+    row.len() == task.operator_count() && row.iter().all(|price| *price <= HIGHEST)
 }

@@ -1,4 +1,4 @@
 -- What the laws of the layers are proved by.
-pub mod Rows
+pub mod Layer
 pub mod Maximum
 pub mod Partition

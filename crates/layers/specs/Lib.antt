@@ -1,5 +1,6 @@
 pub mod Below
-pub mod Joined
+pub mod Terms
+pub mod Layer
 pub mod Maximum
 pub mod Partition
 pub mod Lawful

@@ -1,16 +1,9 @@
 ghost use Rattle.std.specs.Prelude.{◌≡◌};
-ghost use Rattle.layers.specs.Below.{first_below, second_below};
+ghost use Rattle.layers.specs.Below as numbers;
 
-// The number of the first layer below a layer.
-pub fn first_below(layer: u16) -> u16
-    ensures { result ≡ first_below layer }
+// The number of a layer below a layer: of the first at place 0, of the second at place 1.
+pub fn below(layer: u16, place: u16) -> u16
+    ensures { result ≡ numbers.below layer place }
 {
-    layer.saturating_mul(2)
-}
-
-// The number of the second layer below a layer.
-pub fn second_below(layer: u16) -> u16
-    ensures { result ≡ second_below layer }
-{
-    layer.saturating_mul(2).saturating_add(1)
+    layer.saturating_mul(2).saturating_add(place)
 }

@@ -2,6 +2,8 @@
 #![tactic(auto)]
 
 mod below;
+pub mod layer;
 pub mod maximum;
 pub mod partition;
-mod price_table;
+pub mod price_table;
+pub mod rule;

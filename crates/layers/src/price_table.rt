@@ -1,7 +1,8 @@
 ghost use Rattle.std.specs.Prelude.{◌≡◌, ℕ, ◌≤◌, length, take, replicate};
-ghost use Rattle.layers.specs.Joined.{mins};
+ghost use Rattle.layers.specs.Maximum.{mins};
 
-// A price for each of the most operators that a task can have.
+// A price for each of the most operators that a task can have. Its methods ask that the row fits: a struct of the row and the
+// front of the table would hold that fact, but each method would then owe a clause on the one of the two that it leaves alone.
 #[derive(Clone, Copy)]
 pub struct PriceTable {
     prices: [u32; 256],
@@ -21,7 +22,7 @@ impl PriceTable {
         ensures { take (length row.now) self.new.prices ≡ row.now }
     {
         let count = row.len();
-        self.prices[0..count].copy_from_slice(row);
+        self.prices[..count].copy_from_slice(row);
     }
 
     // Writes what was kept back into the row.
@@ -30,7 +31,7 @@ impl PriceTable {
         ensures { row.new ≡ take (length row.old) self.now.prices }
     {
         let count = row.len();
-        row.copy_from_slice(&self.prices[0..count]);
+        row.copy_from_slice(&self.prices[..count]);
     }
 
     // Exchanges what was kept and the row.
@@ -40,7 +41,7 @@ impl PriceTable {
         ensures back { row.new ≡ take (length row.old) self.old.prices }
     {
         let count = row.len();
-        self.prices[0..count].swap_with_slice(row);
+        self.prices[..count].swap_with_slice(row);
     }
 
     // Leaves in the row the lesser of the price kept and the price in the row.
@@ -48,8 +49,9 @@ impl PriceTable {
         requires { length row.old ≤ 256 }
         ensures { row.new ≡ mins (take (length row.old) self.now.prices) row.old }
     {
-        for operator in 0..row.len() {
-            row[operator] = self.prices[operator].min(row[operator]);
+        // Over positions and not a zip, after which the check knows the row's length and none of its prices.
+        for (operator, price) in row.iter_mut().enumerate() {
+            *price = self.prices[operator].min(*price);
         }
     }
 }

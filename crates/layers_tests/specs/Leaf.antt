@@ -3,6 +3,7 @@ use Rattle.std.specs.Prelude.{◌≡◌, ℕ, true, false, List, length, replica
 use Rattle.task.specs.Model.{Model}
 use Rattle.tables.specs.declared.cause.Cause.TheVariants.{Row, Table}
 use Rattle.estimator.specs.Price.{Offer}
+use Rattle.estimator.specs.Laws.{Meaning}
 use Rattle.estimator.specs.declared.fault.SetFault.{SetFault}
 use Rattle.layers_tests.specs.declared.leaf.Leaf.{Leaf}
 
@@ -20,3 +21,6 @@ pub data Sets (s : Leaf) (T : Model) (row : List ℕ) (n : ℕ) (r : Result (Uni
 
 abbrev pub Answers : Leaf → Model → List ℕ → Option ℕ → Leaf → Type 0
 Answers s T row a s' = (a ≡ Some 0) × (s' ≡ s)
+
+abbrev pub leaf : Meaning Leaf
+leaf = record { unset = Unset; holds = Holds; sets = Sets; answers = Answers }

@@ -1,5 +1,5 @@
 ghost use Rattle.std.specs.Prelude.{◌≡◌};
-ghost use Rattle.layers_tests.specs.Leaf.{Unset, Holds, Sets, Answers};
+ghost use Rattle.layers_tests.specs.Leaf.{Unset, leaf};
 ghost use Rattle.layers_tests.specs.Lawful.Leaf.{leaf-laws};
 
 use estimator::estimator::Estimator;
@@ -12,6 +12,7 @@ use task::task::Task;
 #[derive(Drop)]
 pub struct Leaf {
     refuses: bool,
+    // A flag and no Option, since a leaf that is set has nothing that an unset one has not.
     ready: bool,
 }
 
@@ -30,31 +31,17 @@ impl Leaf {
 impl Estimator for Leaf {
     const KIND: u8 = 9;
 
-    ghost unset = { Unset };
-
-    ghost holds = { Holds };
-
-    ghost sets = { Sets };
-
-    ghost answers = { Answers };
+    ghost meaning = { leaf };
 
     ghost laws = { leaf-laws };
 
     fn set(&mut self, task: &Task<'_>, row: &mut [u32], layer: u16) -> Result<(), SetFault> {
         self.ready = false;
         if !is_offer(task, row) {
-            return Err(SetFault {
-                cause: Cause::Row,
-                kind: Self::KIND,
-                layer,
-            });
+            return Err(SetFault::new(Cause::Row, Self::KIND, layer));
         }
         if self.refuses {
-            return Err(SetFault {
-                cause: Cause::Table,
-                kind: Self::KIND,
-                layer,
-            });
+            return Err(SetFault::new(Cause::Table, Self::KIND, layer));
         }
         row.fill(0);
         self.ready = true;

@@ -7,42 +7,38 @@ use std::process::Abort;
 use tables::records::{Counts, Entry, Operator, Span, Variable};
 use task::task::Task;
 
+const NAMELESS: Span = Span { from: 0, to: 0 };
+
 const VARIABLES: [Variable; 1] = [Variable {
-    name: Span { from: 0, to: 0 },
-    values: Span { from: 0, to: 0 },
+    name: NAMELESS,
+    values: NAMELESS,
     domain: 2,
     initial: 0,
 }];
 
+const GOAL: Entry = Entry {
+    variable: 0,
+    required: None,
+    value: 1,
+};
+
 const ENTRIES: [Entry; 2] = [
+    GOAL,
     Entry {
-        variable: 0,
-        required: None,
-        value: 1,
-    },
-    Entry {
-        variable: 0,
         required: Some(0),
-        value: 1,
+        ..GOAL
     },
 ];
 
-const OPERATORS: [Operator; 2] = [
-    Operator {
-        name: Span { from: 0, to: 0 },
-        price: 3,
-        first: 1,
-        conditions: 0,
-        effects: 1,
-    },
-    Operator {
-        name: Span { from: 0, to: 0 },
-        price: 7,
-        first: 1,
-        conditions: 0,
-        effects: 1,
-    },
-];
+const CHEAP: Operator = Operator {
+    name: NAMELESS,
+    price: 3,
+    first: 1,
+    conditions: 0,
+    effects: 1,
+};
+
+const OPERATORS: [Operator; 2] = [CHEAP, Operator { price: 7, ..CHEAP }];
 
 // A task of one variable and two operators.
 fn task() -> Task<'static> {
@@ -57,45 +53,40 @@ fn task() -> Task<'static> {
     task
 }
 
-// The cause's number, kind and layer of the fault with which a set at that layer refuses the row, and the row after it;
-// zeros where it is accepted.
-fn refusal<E: Estimator>(estimator: &mut E, row: &mut [u32], layer: u16) -> (u8, u8, u16) {
-    match estimator.set(&task(), row, layer) {
-        Ok(()) => (0, 0, 0),
-        Err(fault) => (fault.cause.number(), fault.kind, fault.layer),
-    }
+// The cause's number, kind and layer of the fault with which a set at that layer refuses the row, if it does.
+fn refusal<E: Estimator>(estimator: &mut E, row: &mut [u32], layer: u16) -> Option<(u8, u8, u16)> {
+    let fault = estimator.set(&task(), row, layer).err()?;
+    Some((fault.cause.number(), fault.kind, fault.layer))
 }
 
 // Sets the pile four deep whose leaf of that number, counted from the deepest, refuses.
-fn refused_leaf(rt: &impl Abort, leaf: u8, layer: u16) {
-    let deepest = Maximum::new(Leaf::new(leaf == 0), Leaf::new(leaf == 1));
-    let lower = Partition::new(deepest, Leaf::new(leaf == 2));
-    let upper = Maximum::new(lower, Leaf::new(leaf == 3));
-    let mut pile = Partition::new(upper, Leaf::new(leaf == 4));
+fn refused_leaf(rt: &impl Abort, number: usize, layer: u16) {
+    let [a, b, c, d, e] = [0, 1, 2, 3, 4].map(|leaf| Leaf::new(leaf == number));
+    let deepest = Maximum::new(a, b);
+    let upper = Maximum::new(Partition::new(deepest, c), d);
+    let mut pile = Partition::new(upper, e);
     let mut row = [3, 7];
     let fault = refusal(&mut pile, &mut row, 1);
-    assert_eq!(rt; fault, (13, 9, layer));
+    assert_eq!(rt; fault, Some((13, 9, layer)));
     assert_eq!(rt; row, [3, 7]);
 }
 
 #[test]
 fn refusal_in_each_position(rt: HostRuntime) {
-    refused_leaf(&rt, 0, 16);
-    refused_leaf(&rt, 1, 17);
-    refused_leaf(&rt, 2, 9);
-    refused_leaf(&rt, 3, 5);
-    refused_leaf(&rt, 4, 3);
+    for (number, layer) in [16, 17, 9, 5, 3].into_iter().enumerate() {
+        refused_leaf(&rt, number, layer);
+    }
 }
 
 #[test]
 fn accepted_pile_takes_its_part(rt: HostRuntime) {
     let mut row = [3, 7];
     let mut shared = Partition::new(Maximum::new(Blind::new(), Blind::new()), Leaf::new(false));
-    assert_eq!(rt; refusal(&mut shared, &mut row, 1), (0, 0, 0));
+    assert_eq!(rt; refusal(&mut shared, &mut row, 1), None);
     assert_eq!(rt; row, [0, 0]);
     row = [3, 65535];
     let mut blind = Maximum::new(Blind::new(), Blind::new());
-    assert_eq!(rt; refusal(&mut blind, &mut row, 1), (0, 0, 0));
+    assert_eq!(rt; refusal(&mut blind, &mut row, 1), None);
     assert_eq!(rt; row, [3, 65535]);
     assert_eq!(rt; blind.estimate(&task(), &[0]), Some(0));
 }
@@ -105,12 +96,12 @@ fn layers_refuse_rows_themselves(rt: HostRuntime) {
     let mut maximum = Maximum::new(Blind::new(), Leaf::new(true));
     let mut partition = Partition::new(Leaf::new(true), Blind::new());
     let mut high = [3, 65536];
-    assert_eq!(rt; refusal(&mut maximum, &mut high, 6), (11, 3, 6));
-    assert_eq!(rt; refusal(&mut partition, &mut high, 7), (11, 4, 7));
+    assert_eq!(rt; refusal(&mut maximum, &mut high, 6), Some((11, 3, 6)));
+    assert_eq!(rt; refusal(&mut partition, &mut high, 7), Some((11, 4, 7)));
     assert_eq!(rt; high, [3, 65536]);
     let mut long = [3, 7, 0];
-    assert_eq!(rt; refusal(&mut maximum, &mut long, 6), (11, 3, 6));
-    assert_eq!(rt; refusal(&mut partition, &mut long, 7), (11, 4, 7));
+    assert_eq!(rt; refusal(&mut maximum, &mut long, 6), Some((11, 3, 6)));
+    assert_eq!(rt; refusal(&mut partition, &mut long, 7), Some((11, 4, 7)));
 }
 
 #[test]
@@ -118,10 +109,10 @@ fn layer_numbers_are_cut(rt: HostRuntime) {
     let mut first = Maximum::new(Leaf::new(true), Blind::new());
     let mut second = Partition::new(Blind::new(), Leaf::new(true));
     let mut row = [3, 7];
-    assert_eq!(rt; refusal(&mut first, &mut row, 32767), (13, 9, 65534));
-    assert_eq!(rt; refusal(&mut second, &mut row, 32767), (13, 9, 65535));
-    assert_eq!(rt; refusal(&mut first, &mut row, 32768), (13, 9, 65535));
-    assert_eq!(rt; refusal(&mut second, &mut row, 65535), (13, 9, 65535));
+    assert_eq!(rt; refusal(&mut first, &mut row, 32767), Some((13, 9, 65534)));
+    assert_eq!(rt; refusal(&mut second, &mut row, 32767), Some((13, 9, 65535)));
+    assert_eq!(rt; refusal(&mut first, &mut row, 32768), Some((13, 9, 65535)));
+    assert_eq!(rt; refusal(&mut second, &mut row, 65535), Some((13, 9, 65535)));
 }
 
 #[test]

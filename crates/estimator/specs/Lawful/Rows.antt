@@ -12,20 +12,17 @@ zeros (suc n) (suc k) = zeros n k
 pub ok-err : {X Y : Type 0} {x : X} {y : Y} → ◌≡◌ {A = Result X Y} (Ok x) (Err y) → ⊥
 ok-err e = let z : ◌≡◌ {A = ℕ} 0 1 = cc in omega arith
 
-suc-same : {m n : ℕ} → suc m ≡ suc n → m ≡ n
-suc-same e = omega arith
-
 pub length-joined : (f : ℕ → ℕ → ℕ) (xs ys : List ℕ) → length xs ≡ length ys → length (joined f xs ys) ≡ length xs
 length-joined f [] ys e = refl
 length-joined f (x ∷ xs) [] e = absurd (omega arith)
-length-joined f (x ∷ xs) (y ∷ ys) e = ap suc (length-joined f xs ys (suc-same e))
+length-joined f (x ∷ xs) (y ∷ ys) e = ap suc (length-joined f xs ys (omega arith))
 
 pub get_or-joined : (f : ℕ → ℕ → ℕ) → f 0 0 ≡ 0 → (xs ys : List ℕ) → length xs ≡ length ys → (k : ℕ) → slice_index (joined f xs ys) k ≡ f (slice_index xs k) (slice_index ys k)
 get_or-joined f z [] [] e k = sym z
 get_or-joined f z [] (y ∷ ys) e k = absurd (omega arith)
 get_or-joined f z (x ∷ xs) [] e k = absurd (omega arith)
 get_or-joined f z (x ∷ xs) (y ∷ ys) e zero = refl
-get_or-joined f z (x ∷ xs) (y ∷ ys) e (suc k) = get_or-joined f z xs ys (suc-same e) k
+get_or-joined f z (x ∷ xs) (y ∷ ys) e (suc k) = get_or-joined f z xs ys (omega arith) k
 
 -- a part of a price row is a price row
 pub held-offer : (T : Model) (row held left : List ℕ) → Offer T row → Shares row held left → Offer T held

@@ -6,13 +6,13 @@ use Rattle.task.specs.Model.{Model, IsState}
 use Rattle.estimator.specs.Price.{Shares, Admissible}
 use Rattle.estimator.specs.Laws.{Laws}
 use Rattle.estimator.specs.declared.fault.SetFault.{SetFault}
-use Rattle.estimator.specs.Lawful.Rows.{zeros, ok-err}
-use Rattle.layers_tests.specs.Leaf.{Unset, Holds, Sets, Answers, no_offer, stubborn, takes}
+use Rattle.estimator.specs.Lawful.Rows.{zeros}
+use Rattle.layers_tests.specs.Leaf.{Unset, Holds, Sets, Answers, no_offer, stubborn, takes, leaf}
 use Rattle.layers_tests.specs.declared.leaf.Leaf.{Leaf}
 
 accepts-law : {s s' : Leaf} {T : Model} {row left : List ℕ} {n : ℕ} → Sets s T row n (Ok tt) left s' → (held : List ℕ) × Holds s' T held × Shares row held left
-accepts-law (no_offer o r l e) = absurd (ok-err r)
-accepts-law (stubborn o q r l e) = absurd (ok-err r)
+accepts-law (no_offer o r l e) = cc
+accepts-law (stubborn o q r l e) = cc
 accepts-law {row = row} {left = left} (takes o q r l e) = (
   row,
   (ap (λ z. z.ready) e, o),
@@ -26,12 +26,12 @@ accepts-law {row = row} {left = left} (takes o q r l e) = (
 refuses-law : {s s' : Leaf} {T : Model} {row left : List ℕ} {n : ℕ} {f : SetFault} → Sets s T row n (Err f) left s' → Unset s' × (left ≡ row)
 refuses-law (no_offer o r l e) = (ap (λ z. z.ready) e, l)
 refuses-law (stubborn o q r l e) = (ap (λ z. z.ready) e, l)
-refuses-law (takes o q r l e) = absurd (ok-err (sym r))
+refuses-law (takes o q r l e) = cc
 
 admits-law : {s s' : Leaf} {T : Model} {held state : List ℕ} {a : Option ℕ} → Holds s T held → IsState T state → Answers s T state a s' → Admissible T held state a
 admits-law {T = T} {held = held} {state = state} h st x = subst (Admissible T held state) (sym x.0) (λ p plan. zero-le)
 
-pub leaf-laws : Laws Unset Holds Sets Answers
+pub leaf-laws : Laws leaf
 leaf-laws = record {
   apart = λ u h. true≢false (sym h.0 ∙ u);
   priced = λ h. h.1;
