@@ -10,9 +10,9 @@ use Rattle.lines.specs.Reading.{Step, refused, read}
 use Rattle.lines.specs.Views.{place_of}
 use Rattle.format.specs.Whole.{Held}
 
--- an answer that is how many facts the goal has
+-- an answer that is how many facts the goal has, with the entries then in use
 abbrev pub answered_goal : Result ℕ Fault → List Entry → Cursor → Step (List Entry)
-answered_goal (Ok n) es c = read (take n es) (place_of c)
+answered_goal (Ok n) es c = read es (place_of c)
 answered_goal (Err f) es c = refused f
 
 -- an answer that is how many records are used; every variable record is

@@ -8,9 +8,8 @@ use Rattle.tables.specs.declared.records.Operator.{Operator}
 use Rattle.tables.specs.declared.records.Counts.{Counts}
 use Rattle.tables.specs.Records.{zero_variable, zero_operator, zero_entry}
 use Rattle.lines.specs.Reading.{Place, Step, refused, read, and_then, fault_next, word_of, number_from, below_from, top}
-use Rattle.sections.specs.declared.entries.Shape.TheVariants.{Fact}
 use Rattle.sections.specs.Variables.{variables_of, initials_of}
-use Rattle.sections.specs.Entries.{group_of}
+use Rattle.sections.specs.Entries.{fact_numbers, group_of}
 use Rattle.sections.specs.Operators.{operators_of}
 
 -- the records of a task
@@ -49,7 +48,7 @@ abbrev pub goal_of : List Variable → ℕ → Place → Step (List Entry)
 goal_of vs room s =
     and_then (word_of (codes "begin_goal") s) (λ _ s1.
     and_then (below_from (length vs + 1) s1) (λ count s2.
-    and_then (group_of Fact vs room 0 count [] s2) (λ es s3.
+    and_then (group_of fact_numbers vs room 0 count [] s2) (λ es s3.
     and_then (word_of (codes "end_goal") s3) (λ _ s4. read es s4))))
 
 -- nothing after the last line (AFTER)

@@ -1,16 +1,24 @@
 ghost use Rattle.std.specs.Prelude.{◌≡◌, ℕ, ◌+◌, ◌-◌, ◌<◌, ◌≤◌, [], ◌++◌, length, take, replicate, IfOk};
 ghost use Rattle.lines.specs.Views.{place_of, answered, answered_by};
+ghost use Rattle.sections.specs.Views.{entries_in, SameLender};
 ghost use Rattle.format.specs.Whole.{heading_of, state_of, goal_of, body_of, whole_of, task_of, room_of, TaskRead};
 ghost use Rattle.format.specs.Views.{answered_goal, answered_body, answered_whole, held_by};
 
 use lines::cursor::Cursor;
-use sections::entries::{Shape, group};
+use sections::entries::{Entries, Fact};
 use sections::operators::operator_list;
-use sections::seen::Seen;
 use sections::variables::{initial_values, variable_list};
 use tables::cause::Cause;
 use tables::fault::Fault;
 use tables::records::{Counts, Entry, Operator, Variable};
+
+// How many records are used where a text is refused.
+const NONE: Counts = Counts {
+    variables: 0,
+    goals: 0,
+    operators: 0,
+    entries: 0,
+};
 
 // The lines before the number of variables.
 fn heading(cursor: &mut Cursor) -> Result<(), Fault>
@@ -36,43 +44,46 @@ fn state(cursor: &mut Cursor, variables: &mut [Variable]) -> Result<(), Fault>
 }
 
 // The goal: answers how many facts it has.
-fn goal(cursor: &mut Cursor, variables: &[Variable], entries: &mut [Entry]) -> Result<usize, Fault>
-    requires { length variables.now ≤ 32 }
-    ensures reads { goal_of variables.now (length entries.old) (place_of cursor.old) ≡ answered_goal result entries.new cursor.new }
-    ensures room { IfOk result (λ n. n ≤ length entries.new) }
+fn goal(cursor: &mut Cursor, entries: &mut Entries) -> Result<usize, Fault>
+    requires { entries.old.used ≡ 0 }
+    ensures reads { goal_of entries.old.variables.now (length entries.old.records.now) (place_of cursor.old) ≡ answered_goal result (entries_in entries.new) cursor.new }
+    ensures same { SameLender entries.old entries.new }
+    ensures used { IfOk result (λ n. entries.new.used ≡ n) }
 {
     cursor.word(b"begin_goal")?;
-    let count = cursor.below(variables.len() + 1)?;
-    let mut seen = Seen::none();
-    group(cursor, Shape::Fact, variables, entries, 0, count, &mut seen)?;
+    let count = cursor.number(0..entries.variables.len() + 1)?;
+    entries.start_group();
+    entries.group::<Fact>(cursor, count)?;
     cursor.word(b"end_goal")?;
     Ok(count)
 }
 
-// The text after the variables; answers how many of the first records are used.
+// The text after the variables; answers how many of the first records are used. The three rows go down one by one, for
+// each call lends a shorter part of one of them, so that a struct of the three would be built anew at each.
 fn body(
     cursor: &mut Cursor,
     variables: &mut [Variable],
     operators: &mut [Operator],
     entries: &mut [Entry],
 ) -> Result<Counts, Fault>
-    requires { (length variables.old ≤ 32) × (length entries.old ≤ 4096) }
+    requires { length variables.old ≤ 32 }
     ensures reads { body_of variables.old (length operators.old) (length entries.old) (place_of cursor.old) ≡ answered_body result variables.new operators.new entries.new cursor.new }
     ensures room { IfOk result (λ n. (n.variables ≡ length variables.new) × (n.operators ≤ length operators.new) × (n.entries ≤ length entries.new)) }
 {
     state(cursor, variables)?;
-    let goals = goal(cursor, variables, entries)?;
-    let count = cursor.below(257)?;
-    let used = operator_list(cursor, variables, operators, entries, goals, count)?;
+    let mut entries = Entries::new(variables, entries);
+    let goals = goal(cursor, &mut entries)?;
+    let count = cursor.number(0..257)?;
+    operator_list(cursor, &mut entries, operators, count)?;
     cursor.word(b"0")?;
     if !cursor.rest.is_empty() {
         return Err(cursor.next_fault(Cause::After));
     }
     Ok(Counts {
-        variables: variables.len(),
+        variables: entries.variables.len(),
         goals,
         operators: count,
-        entries: used,
+        entries: entries.used,
     })
 }
 
@@ -83,24 +94,13 @@ fn read_whole(
     operators: &mut [Operator],
     entries: &mut [Entry],
 ) -> Result<Counts, Fault>
-    requires { length entries.old ≤ 4096 }
     ensures reads { whole_of (record { variables = length variables.entry.now; operators = length operators.old; entries = length entries.old }) (place_of cursor.old) ≡ answered_whole result variables.exit.now operators.new entries.new cursor.new }
     ensures room { IfOk result (λ n. (n.variables ≤ length variables.new) × (n.operators ≤ length operators.new) × (n.entries ≤ length entries.new)) }
 {
     heading(cursor)?;
-    let count = cursor.number(1, 32)? as usize;
+    let count = cursor.number(1..33)?;
     variable_list(cursor, count, variables)?;
-    body(cursor, &mut variables[0..count], operators, entries)
-}
-
-// Makes the records from `used` on zero.
-fn zero_from<T: Copy>(records: &mut [T], used: usize, zero: T)
-    requires { used ≤ length records.old }
-    ensures { records.new ≡ take used records.old ++ replicate (length records.old - used) zero }
-{
-    for i in used..records.len() {
-        records[i] = zero;
-    }
+    body(cursor, &mut variables[..count], operators, entries)
 }
 
 // Reads a task text into the first records and answers how many of them are used.
@@ -123,8 +123,7 @@ fn read_limited(
     }
     let mut cursor = Cursor::new(text);
     let room = entries.len().min(4096);
-    let counts = read_whole(&mut cursor, variables, operators, &mut entries[0..room])?;
-    Ok(counts)
+    read_whole(&mut cursor, variables, operators, &mut entries[..room])
 }
 
 // Reads a task text into the first records and answers how many of them are used.
@@ -137,18 +136,10 @@ pub fn read_task(
 ) -> Result<Counts, Fault>
     ensures { TaskRead (task_of text.now (room_of (length variables.old) (length operators.old) (length entries.old))) result (length variables.old) variables.new (length operators.old) operators.new (length entries.old) entries.new }
 {
-    match read_limited(text, variables, operators, entries) {
-        Ok(counts) => {
-            zero_from(variables, counts.variables, Variable::ZERO);
-            zero_from(operators, counts.operators, Operator::ZERO);
-            zero_from(entries, counts.entries, Entry::ZERO);
-            Ok(counts)
-        }
-        Err(fault) => {
-            zero_from(variables, 0, Variable::ZERO);
-            zero_from(operators, 0, Operator::ZERO);
-            zero_from(entries, 0, Entry::ZERO);
-            Err(fault)
-        }
-    }
+    let result = read_limited(text, variables, operators, entries);
+    let used = result.unwrap_or(NONE);
+    variables[used.variables..].fill(Variable::ZERO);
+    operators[used.operators..].fill(Operator::ZERO);
+    entries[used.entries..].fill(Entry::ZERO);
+    result
 }

@@ -1,5 +1,6 @@
 -- How numbers are written in a task text, and how a line holds several of them.
-use Rattle.std.specs.Prelude.{ℕ, ◌+◌, ◌-◌, ◌*◌, Bool, true, cond, not, ◌&&◌, List, [], ◌∷◌, length, Some, None, codes, Option, ◌==◌, nat_le, nat_lt, slice_index}
+use Rattle.std.specs.Prelude.{ℕ, zero, suc, ◌+◌, ◌-◌, ◌*◌, Bool, cond, not, ◌&&◌, List, [], ◌∷◌, length, fold, Some, None, codes, Option, ◌==◌, nat_le, nat_lt, slice_index}
+use Rattle.std.specs.List.{list_all}
 use Rattle.std.specs.Str.{bytes_eq}
 use Rattle.lines.specs.declared.number.Number.{Number}
 use Rattle.lines.specs.declared.number.Number.TheVariants.{MinusOne, Value, TooLong}
@@ -7,13 +8,11 @@ use Rattle.tables.specs.Lines.{cut_at}
 
 -- each byte is a decimal digit
 abbrev pub all_digits : List ℕ → Bool
-all_digits [] = true
-all_digits (c ∷ cs) = (nat_le 48 c && nat_le c 57) && all_digits cs
+all_digits bs = list_all (λ c. nat_le 48 c && nat_le c 57) bs
 
 -- the number n, and the digits after it
 abbrev pub value_after : ℕ → List ℕ → ℕ
-value_after n [] = n
-value_after n (c ∷ cs) = value_after (n * 10 + (c - 48)) cs
+value_after n bs = fold (λ m c. m * 10 + (c - 48)) n bs
 
 -- a zero in front of other bytes
 abbrev pub needless_zero : List ℕ → Bool
@@ -31,17 +30,19 @@ value_of bs = cond (nat_le (length bs) 9) (Value (value_after 0 bs)) TooLong
 unfoldable pub number_of : List ℕ → Option Number
 number_of bs = cond (bytes_eq bs (codes "-1")) (Some MinusOne) (cond (natural bs) (Some (value_of bs)) None)
 
+-- the number where it lies from `start` up to, and without, `end`
+abbrev pub in_range_of : ℕ → ℕ → Number → Option ℕ
+in_range_of start end MinusOne = None
+in_range_of start end (Value n) = cond (nat_le start n && nat_lt n end) (Some n) None
+in_range_of start end TooLong = None
+
 -- the number where it lies from least to most
 abbrev pub within_of : ℕ → ℕ → Number → Option ℕ
-within_of least most MinusOne = None
-within_of least most (Value n) = cond (nat_le least n && nat_le n most) (Some n) None
-within_of least most TooLong = None
+within_of least most = in_range_of least (most + 1)
 
 -- the number where it lies below the bound
 abbrev pub below_of : ℕ → Number → Option ℕ
-below_of bound MinusOne = None
-below_of bound (Value n) = cond (nat_lt n bound) (Some n) None
-below_of bound TooLong = None
+below_of bound = in_range_of 0 bound
 
 -- where there is a value, what follows from it
 abbrev pub and_of : {A B : Type 0} → Option A → (A → Option B) → Option B
@@ -59,3 +60,9 @@ two_of bs = and_of (first_of bs) (λ p. and_of (number_of p.1) (λ b. Some (p.0,
 -- four numbers, one space between two
 abbrev pub four_of : List ℕ → Option (Number × Number × Number × Number)
 four_of bs = and_of (first_of bs) (λ p. and_of (first_of p.1) (λ q. and_of (two_of q.1) (λ r. Some (p.0, q.0, r.0, r.1))))
+
+-- n numbers, one space between two
+abbrev pub numbers_of : ℕ → List ℕ → Option (List Number)
+numbers_of zero bs = None
+numbers_of (suc zero) bs = and_of (number_of bs) (λ a. Some (a ∷ []))
+numbers_of (suc (suc n)) bs = and_of (first_of bs) (λ p. and_of (numbers_of (suc n) p.1) (λ ns. Some (p.0 ∷ ns)))

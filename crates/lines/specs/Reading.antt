@@ -7,7 +7,7 @@ use Rattle.tables.specs.declared.fault.Fault.{Fault}
 use Rattle.tables.specs.declared.records.Span.{Span}
 use Rattle.tables.specs.Lines.{cut_line}
 use Rattle.lines.specs.Printable.{printable}
-use Rattle.lines.specs.Numbers.{number_of, within_of, below_of}
+use Rattle.lines.specs.Numbers.{number_of, in_range_of}
 
 -- where a reading stands: the bytes left, how many bytes and lines were taken, the operator whose lines are read
 pub record Place : Type 0 where
@@ -60,19 +60,20 @@ line_of s = and_then (taken s (cut_line s.rest)) (λ bs s1. and_then (tested s1 
 abbrev pub word_of : List ℕ → Place → Step (Unit {0})
 word_of w s = and_then (line_of s) (λ bs s1. tested s1 (bytes_eq bs w) cause.Word)
 
--- the due line holds one number (NUMBER), from least to most (RANGE)
-abbrev pub number_from : ℕ → ℕ → Place → Step ℕ
-number_from least most s =
+-- the due line holds one number (NUMBER), from `start` up to, and without, `end` (RANGE)
+abbrev pub number_in : ℕ → ℕ → Place → Step ℕ
+number_in start end s =
     and_then (line_of s) (λ bs s1.
     and_then (given s1 (number_of bs) cause.Number) (λ n s2.
-    given s2 (within_of least most n) cause.Range))
+    given s2 (in_range_of start end n) cause.Range))
 
--- the due line holds one number (NUMBER), below a bound (RANGE)
+-- one number, from least to most
+abbrev pub number_from : ℕ → ℕ → Place → Step ℕ
+number_from least most = number_in least (most + 1)
+
+-- one number, below a bound
 abbrev pub below_from : ℕ → Place → Step ℕ
-below_from bound s =
-    and_then (line_of s) (λ bs s1.
-    and_then (given s1 (number_of bs) cause.Number) (λ n s2.
-    given s2 (below_of bound n) cause.Range))
+below_from bound = number_in 0 bound
 
 -- the due line is a name: any line
 abbrev pub name_of : Place → Step Span

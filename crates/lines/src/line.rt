@@ -5,10 +5,5 @@ ghost use Rattle.lines.specs.Printable.{printable};
 pub fn is_printable(line: &[u8]) -> bool
     ensures { printable line.now ≡ result }
 {
-    for b in line {
-        if *b < 32 || *b > 126 {
-            return false;
-        }
-    }
-    true
+    line.iter().all(|b| 32 <= *b && *b <= 126)
 }

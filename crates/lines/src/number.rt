@@ -1,58 +1,38 @@
 ghost use Rattle.std.specs.Prelude.{◌≡◌, ℕ, ◌+◌, ◌^◌, ◌<◌, ◌≤◌, true, length, IfSome};
-ghost use Rattle.std.specs.Str.{bytes_eq};
 ghost use Rattle.lines.specs.Views.{number_and_part};
-ghost use Rattle.lines.specs.Numbers.{all_digits, natural, value_after, number_of, within_of, below_of, first_of, two_of, four_of};
+ghost use Rattle.lines.specs.Numbers.{all_digits, natural, value_after, number_of, in_range_of, first_of, numbers_of};
 
+use std::ops::Range;
 use tables::line::cut_at;
 
 // A number of a task text; one of more than nine digits lies in no range.
 #[derive(Clone, Copy)]
 pub enum Number {
     MinusOne,
-    Value(u32),
+    Value(usize),
     TooLong,
-}
-
-// Whether the two hold the same bytes.
-pub fn same(a: &[u8], b: &[u8]) -> bool
-    ensures { bytes_eq a.now b.now ≡ result }
-{
-    a == b
-}
-
-// Whether each byte is a decimal digit.
-fn is_digits(bytes: &[u8]) -> bool
-    ensures { all_digits bytes.now ≡ result }
-{
-    for b in bytes {
-        if *b < b'0' || *b > b'9' {
-            return false;
-        }
-    }
-    true
 }
 
 // Whether the bytes are digits without a needless zero.
 fn is_natural(bytes: &[u8]) -> bool
     ensures { natural bytes.now ≡ result }
 {
-    if bytes.is_empty() {
-        return false;
+    match bytes {
+        [] => false,
+        [b'0', _, ..] => false,
+        _ => bytes.iter().all(u8::is_ascii_digit),
     }
-    if bytes.len() > 1 && bytes[0] == b'0' {
-        return false;
-    }
-    is_digits(bytes)
 }
 
 // The value of at most nine digits.
-fn value(digits: &[u8]) -> u32
+fn value(digits: &[u8]) -> usize
     requires { (length digits.now ≤ 9) × (all_digits digits.now ≡ true) }
     ensures { value_after 0 digits.now ≡ result }
 {
-    let mut value: u32 = 0;
+    // A fold would owe at each digit that the sum fits, of which only an invariant over the digits so far can speak.
+    let mut value: usize = 0;
     for b in digits {
-        value = value * 10 + u32::from(*b - b'0');
+        value = value * 10 + usize::from(*b - b'0');
     }
     value
 }
@@ -63,7 +43,7 @@ impl Number {
     pub fn parse(bytes: &[u8]) -> Option<Number>
         ensures { number_of bytes.now ≡ result }
     {
-        if same(bytes, b"-1") {
+        if bytes == b"-1".as_slice() {
             return Some(Number::MinusOne);
         }
         if !is_natural(bytes) {
@@ -75,24 +55,13 @@ impl Number {
         Some(Number::Value(value(bytes)))
     }
 
-    // The number where it lies from `least` to `most`.
-    pub fn within(self, least: u32, most: u32) -> Option<u32>
-        ensures reads { within_of least most self ≡ result }
-        ensures range { IfSome result (λ n. (least ≤ n) × (n ≤ most)) }
+    // The number where it lies in the range.
+    pub fn within(self, range: Range<usize>) -> Option<usize>
+        ensures reads { in_range_of range.start range.end self ≡ result }
+        ensures range { IfSome result (λ n. (range.start ≤ n) × (n < range.end)) }
     {
         match self {
-            Number::Value(n) if least <= n && n <= most => Some(n),
-            _ => None,
-        }
-    }
-
-    // The number where it lies below `bound`.
-    pub fn below(self, bound: usize) -> Option<usize>
-        ensures reads { below_of bound self ≡ result }
-        ensures range { IfSome result (λ n. n < bound) }
-    {
-        match self {
-            Number::Value(n) if (n as usize) < bound => Some(n as usize),
+            Number::Value(n) if range.contains(&n) => Some(n),
             _ => None,
         }
     }
@@ -102,40 +71,20 @@ impl Number {
 fn first_number(line: &[u8]) -> Option<(Number, &[u8])>
     ensures { first_of line.now ≡ number_and_part result }
 {
-    let Some((word, rest)) = cut_at(line, b' ') else {
-        return None;
-    };
-    let Some(number) = Number::parse(word) else {
-        return None;
-    };
-    Some((number, rest))
+    let (word, rest) = cut_at(line, b' ')?;
+    Some((Number::parse(word)?, rest))
 }
 
-// The two numbers of a line.
-pub fn two_numbers(line: &[u8]) -> Option<(Number, Number)>
-    ensures { two_of line.now ≡ result }
+// The numbers of a line, one space between two; none where it does not hold just as many.
+pub fn numbers<const N: usize>(line: &[u8]) -> Option<[Number; N]>
+    ensures { numbers_of N line.now ≡ result }
 {
-    let Some((a, rest)) = first_number(line) else {
-        return None;
-    };
-    let Some(b) = Number::parse(rest) else {
-        return None;
-    };
-    Some((a, b))
-}
-
-// The four numbers of a line.
-pub fn four_numbers(line: &[u8]) -> Option<(Number, Number, Number, Number)>
-    ensures { four_of line.now ≡ result }
-{
-    let Some((a, rest)) = first_number(line) else {
-        return None;
-    };
-    let Some((b, rest)) = first_number(rest) else {
-        return None;
-    };
-    let Some((c, d)) = two_numbers(rest) else {
-        return None;
-    };
-    Some((a, b, c, d))
+    let mut found = [Number::TooLong; N];
+    let (last, earlier) = found.split_last_mut()?;
+    let mut rest = line;
+    for number in earlier.iter_mut() {
+        (*number, rest) = first_number(rest)?;
+    }
+    *last = Number::parse(rest)?;
+    Some(found)
 }

@@ -1,10 +1,11 @@
 ghost use Rattle.std.specs.Prelude.{◌≡◌, ℕ, ◌+◌, ◌<◌, ◌≤◌, length, IfOk};
-ghost use Rattle.lines.specs.Reading.{top, fault_at, fault_next, line_of, word_of, number_from, below_from, name_of, turns, passed};
+ghost use Rattle.lines.specs.Reading.{top, fault_at, fault_next, line_of, word_of, number_in, name_of, turns, passed};
 ghost use Rattle.lines.specs.Views.{place_of, answered, answered_part};
 
 use crate::cursor::Cursor;
 use crate::line::is_printable;
-use crate::number::{Number, same};
+use crate::number::Number;
+use std::ops::Range;
 use tables::cause::Cause;
 use tables::fault::Fault;
 use tables::line::cut_line;
@@ -47,6 +48,7 @@ impl<'a> Cursor<'a> {
     }
 
     // The due line.
+    #[tactic(auto, unfolding(crate::specs::Reading::line_of))]
     pub fn line(&mut self) -> Result<&'a [u8], Fault>
         ensures { line_of (place_of self.old) ≡ answered_part result self.new }
     {
@@ -67,37 +69,22 @@ impl<'a> Cursor<'a> {
         ensures { word_of word.now (place_of self.old) ≡ answered result self.new }
     {
         let line = self.line()?;
-        if !same(line, word) {
+        if line != word {
             return Err(self.fault(Cause::Word));
         }
         Ok(())
     }
 
-    // The due line holds one number, from `least` to `most`.
-    pub fn number(&mut self, least: u32, most: u32) -> Result<u32, Fault>
-        ensures reads { number_from least most (place_of self.old) ≡ answered result self.new }
-        ensures range { IfOk result (λ n. (least ≤ n) × (n ≤ most)) }
+    // The due line holds one number, which lies in the range.
+    pub fn number(&mut self, range: Range<usize>) -> Result<usize, Fault>
+        ensures reads { number_in range.start range.end (place_of self.old) ≡ answered result self.new }
+        ensures range { IfOk result (λ n. (range.start ≤ n) × (n < range.end)) }
     {
         let line = self.line()?;
         let Some(number) = Number::parse(line) else {
             return Err(self.fault(Cause::Number));
         };
-        let Some(value) = number.within(least, most) else {
-            return Err(self.fault(Cause::Range));
-        };
-        Ok(value)
-    }
-
-    // The due line holds one number, below `bound`.
-    pub fn below(&mut self, bound: usize) -> Result<usize, Fault>
-        ensures reads { below_from bound (place_of self.old) ≡ answered result self.new }
-        ensures range { IfOk result (λ n. n < bound) }
-    {
-        let line = self.line()?;
-        let Some(number) = Number::parse(line) else {
-            return Err(self.fault(Cause::Number));
-        };
-        let Some(value) = number.below(bound) else {
+        let Some(value) = number.within(range) else {
             return Err(self.fault(Cause::Range));
         };
         Ok(value)
@@ -115,11 +102,12 @@ impl<'a> Cursor<'a> {
         })
     }
 
-    // Lines of any names, as many as `count`.
-    pub fn skip(&mut self, count: u32) -> Result<(), Fault>
+    // Lines of any names, as many as `count`: a chain's closure would move the cursor, and a proof knows nothing of what
+    // a closure moved.
+    pub fn skip(&mut self, count: usize) -> Result<(), Fault>
         ensures { turns count passed tt (place_of self.old) ≡ answered result self.new }
     {
-        for _i in 0..count {
+        for _ in 0..count {
             self.line()?;
         }
         Ok(())

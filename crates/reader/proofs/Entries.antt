@@ -1,6 +1,6 @@
 -- Groups of entries: what was read if a group was accepted, and that every valid group is.
 use Rattle.std.proofs.Common.{◌≡◌, ℕ, zero, suc, ◌+◌, ◌<◌, ◌≤◌, Bool, true, false, cond, not, ltb, List, [], ◌∷◌, ◌++◌, map, length, get_or, drop, Some, None, codes, decimal, Option, sym, refl, ap, ◌∙◌, arith}
-use Rattle.std.proofs.lemmas.Bool.{ltb-true, lt-ltb}
+use Rattle.std.proofs.lemmas.Bool.{ltb-true, lt-ltb, le-leb}
 use Rattle.std.proofs.lemmas.List.{append_assoc, append-nil, length-append, drop-append-le}
 use Rattle.std.proofs.lemmas.Fmt.{decimal_digit}
 use Rattle.std.specs.List.{AllByRecursion}
@@ -14,14 +14,12 @@ use Rattle.lines.specs.declared.number.Number.TheVariants.{MinusOne, Value, TooL
 use Rattle.lines.specs.Printable.{printable}
 use Rattle.lines.specs.Numbers.{number_of, below_of, two_of}
 use Rattle.lines.specs.Reading.{Place, read, tested, given, line_of, turns}
-use Rattle.sections.specs.declared.entries.Shape.{Shape}
-use Rattle.sections.specs.declared.entries.Shape.TheVariants.{Fact, Effect}
-use Rattle.sections.specs.Entries.{numbers_of, required_of, entry_in, names, entry_of, entry_more}
+use Rattle.sections.specs.Entries.{fact_numbers, effect_numbers, required_of, entry_in, names, entry_of, entry_more}
 use Rattle.reader.specs.Named.{FactFits, EffectFits, RequiredBelow}
 use Rattle.reader.specs.Rendering.{spelled, spaced, fact_line, effect_line, required_word}
 use Rattle.reader.proofs.Decimal.{decimal-from-number, minus-from-number}
 use Rattle.reader.proofs.Spaced.{and_parts, two_from, four-from, Word, decimal-word, minus-word, prints-spaced, two-reads, four-reads}
-use Rattle.reader.proofs.Leaves.{after, tested-parts, given-parts, past, Stands, stands-past, Line, line-from, line_reads, below_parts}
+use Rattle.reader.proofs.Leaves.{after, tested-parts, given-parts, past, Stands, stands-past, Line, line-from, line_reads, in-range-parts}
 use Rattle.reader.proofs.Distinct.{new_in, distinct_push}
 
 -- how many values each variable record has
@@ -37,13 +35,22 @@ pub length-domains : (vs : List Variable) → length (domains vs) ≡ length vs
 length-domains [] = refl
 length-domains (x ∷ vs) = ap suc (length-domains vs)
 
+-- what a line of an entry holds
+pub data Shape : Type 0 where
+  fact : Shape
+  effect : Shape
+
+abbrev pub numbers_of : Shape → List ℕ → Option (Number × Number × Number × Number)
+numbers_of fact = fact_numbers
+numbers_of effect = effect_numbers
+
 abbrev pub entry_line : Shape → Entry → List ℕ
-entry_line Fact e = fact_line e
-entry_line Effect e = effect_line e
+entry_line fact e = fact_line e
+entry_line effect e = effect_line e
 
 abbrev pub Fits : Shape → List ℕ → Entry → Type 0
-Fits Fact ds e = FactFits ds e
-Fits Effect ds e = EffectFits ds e
+Fits fact ds e = FactFits ds e
+Fits effect ds e = EffectFits ds e
 
 -- a required value as it was read
 required-parts : {C : Type 0} (d : ℕ) (x : Number) (w : List ℕ) (b : Option ℕ) → number_of w ≡ Some x → required_of d x ≡ Some b → (w ≡ required_word b → RequiredBelow d b → C) → C
@@ -72,16 +79,16 @@ entry-parts vs n0 n1 n2 n3 e h k =
     let v-is : v ≡ e.variable = ap (λ x. x.variable) is in
     let b-is : b ≡ e.required = ap (λ x. x.required) is in
     let a-is : a ≡ e.value = ap (λ x. x.value) is in
-    let p0 = below_parts 1 n0 z e0 in
-    let p1 = below_parts (length vs) n1 v e1 in
-    let p3 = below_parts (get_or vs v zero_variable).domain n3 a e3 in
-    let z-is : z ≡ 0 = omega (arith, p0.1) in
+    let p0 = in-range-parts 0 1 n0 z e0 in
+    let p1 = in-range-parts 0 (length vs) n1 v e1 in
+    let p3 = in-range-parts 0 (get_or vs v zero_variable).domain n3 a e3 in
+    let z-is : z ≡ 0 = omega (arith, p0.2) in
     let d-is : (get_or vs v zero_variable).domain ≡ get_or (domains vs) e.variable 0 = domain-at vs v ∙ ap (λ x. get_or (domains vs) x 0) v-is in
-    k (p0.0 ∙ ap Value z-is) (p1.0 ∙ ap Value v-is) (omega (arith, p1.1)) (rw (← d-is) (e2 ∙ ap Some b-is)) (p3.0 ∙ ap Value a-is) (omega (arith, p3.1))))))
+    k (p0.0 ∙ ap Value z-is) (p1.0 ∙ ap Value v-is) (omega (arith, p1.2)) (rw (← d-is) (e2 ∙ ap Some b-is)) (p3.0 ∙ ap Value a-is) (omega (arith, p3.2))))))
 
 -- what a line of an accepted entry holds
 pub entry-from : (shape : Shape) (vs : List Variable) (bs : List ℕ) (ns : Number × Number × Number × Number) (e : Entry) → numbers_of shape bs ≡ Some ns → entry_in vs ns ≡ Some e → Fits shape (domains vs) e × (bs ≡ entry_line shape e)
-entry-from Fact vs bs ns e h k =
+entry-from fact vs bs ns e h k =
     and_parts (two_of bs) _ ns h (λ p e1 f1.
     two_from bs p.0 p.1 e1 (λ v w g1 g2 bytes.
     let is : ◌≡◌ {A = Number × Number × Number × Number} (Value 0, p.0, p.1, p.1) ns = cc in
@@ -92,7 +99,7 @@ entry-from Fact vs bs ns e h k =
     let t : ltb e.value (get_or (domains vs) e.variable 0) ≡ true = lt-ltb e.value _ below in
     let same : cond true (Some (Some e.value)) None ≡ Some e.required = rw t at req in
     (record { variable = omega (arith, length-domains vs); required = cc; value = below }, rw (v-is, w-is) at bytes))))
-entry-from Effect vs bs ns e h k =
+entry-from effect vs bs ns e h k =
     four-from bs ns.0 ns.1 ns.2 ns.3 h (λ v w x y g0 g1 g2 g3 bytes.
     entry-parts vs ns.0 ns.1 ns.2 ns.3 e k (λ z0 z1 inside r z3 below.
     required-parts (get_or (domains vs) e.variable 0) ns.2 x e.required g2 r (λ x-is fits.
@@ -126,10 +133,10 @@ in-ranges vs e n2 inside r below =
     let d = domain-at vs e.variable in
     let t1 : ltb e.variable (length vs) ≡ true = lt-ltb e.variable (length vs) inside in
     let t3 : ltb e.value (get_or (domains vs) e.variable 0) ≡ true = lt-ltb e.value _ below in
-    rw (t1, d, r, t3)
+    rw (le-leb 0 e.variable (omega arith), t1, d, r, le-leb 0 e.value (omega arith), t3)
 
 pub entry-reads : (shape : Shape) (vs : List Variable) (e : Entry) → length vs ≤ 32 → get_or (domains vs) e.variable 0 ≤ 255 → Fits shape (domains vs) e → EntryReads shape vs e
-entry-reads Fact vs e few small h =
+entry-reads fact vs e few small h =
     let len = length-domains vs in
     let v = decimal-word e.variable (omega (arith, h.variable)) in
     let w = decimal-word e.value (omega (arith, h.value)) in
@@ -142,7 +149,7 @@ entry-reads Fact vs e few small h =
       ranged = in-ranges vs e (Value e.value) (omega (arith, h.variable)) r h.value;
       prints = prints-spaced (decimal e.variable) (decimal e.value) v.prints w.prints;
     }
-entry-reads Effect vs e few small h =
+entry-reads effect vs e few small h =
     let len = length-domains vs in
     let z : Word (codes "0") (Value 0) = rw (decimal_digit 0 (omega arith)) at (decimal-word 0 (omega arith)) in
     let v = decimal-word e.variable (omega (arith, h.variable)) in
@@ -168,11 +175,11 @@ pub record EntryMore (shape : Shape) (vs : List Variable) (room first : ℕ) (es
   pub free : length es < room
   pub line : Line s (entry_line shape e) s1
 
-more-from : {C : Type 0} (shape : Shape) (vs : List Variable) (room first : ℕ) (es : List Entry) (s : Place) (es1 : List Entry) (s1 : Place) → entry_more shape vs room first es s ≡ read es1 s1
+more-from : {C : Type 0} (shape : Shape) (vs : List Variable) (room first : ℕ) (es : List Entry) (s : Place) (es1 : List Entry) (s1 : Place) → entry_more (numbers_of shape) vs room first es s ≡ read es1 s1
     → ((e : Entry) → EntryMore shape vs room first es s es1 s1 e → C) → C
 unfolding entry_more
 more-from shape vs room first es s es1 s1 h k =
-    after (entry_of shape vs (drop first es) (ltb (length es) room) s) _ es1 s1 h (λ e a0 e0 f0.
+    after (entry_of (numbers_of shape) vs (drop first es) (ltb (length es) room) s) _ es1 s1 h (λ e a0 e0 f0.
     after (line_of s) _ e a0 e0 (λ bs a1 e1 f1.
     after (given a1 (numbers_of shape bs) cause.Number) _ e a0 f1 (λ ns a2 e2 f2.
     after (given a2 (entry_in vs ns) cause.Range) _ e a0 f2 (λ x a3 e3 f3.
@@ -197,7 +204,7 @@ more-from shape vs room first es s es1 s1 h k =
     })))))))
 
 more-reads : (shape : Shape) (vs : List Variable) (room first : ℕ) (es : List Entry) (s : Place) (e : Entry) (r : List ℕ) → length vs ≤ 32 → get_or (domains vs) e.variable 0 ≤ 255 → Fits shape (domains vs) e
-    → names e.variable (drop first es) ≡ false → length es < room → s.rest ≡ (entry_line shape e ++ 10 ∷ []) ++ r → entry_more shape vs room first es s ≡ read (es ++ e ∷ []) (past s (entry_line shape e) r)
+    → names e.variable (drop first es) ≡ false → length es < room → s.rest ≡ (entry_line shape e ++ 10 ∷ []) ++ r → entry_more (numbers_of shape) vs room first es s ≡ read (es ++ e ∷ []) (past s (entry_line shape e) r)
 unfolding entry_more
 more-reads shape vs room first es s e r few small fits new free h =
     let q = entry-reads shape vs e few small fits in
@@ -214,7 +221,7 @@ pub record Group (shape : Shape) (vs : List Variable) (room first n : ℕ) (es :
   pub free : length es + n ≤ room
   pub bytes : s.rest ≡ spelled (map (entry_line shape) xs) ++ s1.rest
 
-pub group-from : {C : Type 0} (shape : Shape) (vs : List Variable) (room first n : ℕ) (es : List Entry) (s : Place) (es1 : List Entry) (s1 : Place) → turns n (entry_more shape vs room first) es s ≡ read es1 s1
+pub group-from : {C : Type 0} (shape : Shape) (vs : List Variable) (room first n : ℕ) (es : List Entry) (s : Place) (es1 : List Entry) (s1 : Place) → turns n (entry_more (numbers_of shape) vs room first) es s ≡ read es1 s1
     → first ≤ length es → length es ≤ room → Distinct (drop first es) → ((xs : List Entry) → Group shape vs room first n es s es1 s1 xs → C) → C
 unfolding turns
 group-from shape vs room first zero es s es1 s1 e below fits d h =
@@ -222,7 +229,7 @@ group-from shape vs room first zero es s es1 s1 e below fits d h =
     let g : es ≡ es1 = cc in
     h [] (record { made = sym g ∙ sym (append-nil es); count = refl; fit = tt; distinct = rw (append-nil (drop first es)) d; free = omega arith; bytes = ap (λ z. z.rest) f })
 group-from shape vs room first (suc n) es s es1 s1 e below fits d h =
-    after (entry_more shape vs room first es s) _ es1 s1 e (λ es2 a1 e1 f1.
+    after (entry_more (numbers_of shape) vs room first es s) _ es1 s1 e (λ es2 a1 e1 f1.
     more-from shape vs room first es s es2 a1 e1 (λ x m.
     let longer : length es2 ≡ length es + 1 = ap length m.made ∙ simp length-append in
     let free = m.free in
@@ -240,7 +247,7 @@ group-from shape vs room first (suc n) es s es1 s1 e below fits d h =
 
 pub record GroupReads (text : List ℕ) (shape : Shape) (vs : List Variable) (room first : ℕ) (es : List Entry) (s : Place) (xs : List Entry) (r : List ℕ) : Type 0 where
   pub to : Place
-  pub reads : turns (length xs) (entry_more shape vs room first) es s ≡ read (es ++ xs) to
+  pub reads : turns (length xs) (entry_more (numbers_of shape) vs room first) es s ≡ read (es ++ xs) to
   pub rest : to.rest ≡ r
   pub stands : Stands text to
 

@@ -15,8 +15,8 @@ use Rattle.tables.specs.Rules.{SpanFits}
 use Rattle.lines.specs.declared.number.Number.{Number}
 use Rattle.lines.specs.declared.number.Number.TheVariants.{MinusOne, Value, TooLong}
 use Rattle.lines.specs.Printable.{printable}
-use Rattle.lines.specs.Numbers.{number_of, within_of, below_of}
-use Rattle.lines.specs.Reading.{Place, Step, refused, read, and_then, tested, given, taken, line_of, word_of, number_from, below_from, name_of, turns, passed}
+use Rattle.lines.specs.Numbers.{number_of, in_range_of}
+use Rattle.lines.specs.Reading.{Place, Step, refused, read, and_then, tested, given, taken, line_of, word_of, number_in, name_of, turns, passed}
 use Rattle.reader.specs.Rendering.{spelled}
 use Rattle.reader.proofs.Decimal.{decimal-from-number, number-from-decimal, prints-decimal}
 
@@ -129,61 +129,33 @@ word-reads w s r e h =
     rw (line_reads s w r e h, same)
 
 -- a number
-pub within-parts : (least most : ℕ) (x : Number) (n : ℕ) → within_of least most x ≡ Some n → (x ≡ Value n) × (least ≤ n) × (n ≤ most)
-within-parts least most MinusOne n e = let bad : ◌≡◌ {A = ℕ} 0 1 = cc in let no_way : ⊥ = omega arith in absurd no_way
-within-parts least most (Value m) n e = grind (arith, nat_tests)
-within-parts least most TooLong n e = let bad : ◌≡◌ {A = ℕ} 0 1 = cc in let no_way : ⊥ = omega arith in absurd no_way
+pub in-range-parts : (start end : ℕ) (x : Number) (n : ℕ) → in_range_of start end x ≡ Some n → (x ≡ Value n) × (start ≤ n) × (n < end)
+in-range-parts start end MinusOne n e = let bad : ◌≡◌ {A = ℕ} 0 1 = cc in let no_way : ⊥ = omega arith in absurd no_way
+in-range-parts start end (Value m) n e = grind (arith, nat_tests)
+in-range-parts start end TooLong n e = let bad : ◌≡◌ {A = ℕ} 0 1 = cc in let no_way : ⊥ = omega arith in absurd no_way
 
-pub below_parts : (bound : ℕ) (x : Number) (n : ℕ) → below_of bound x ≡ Some n → (x ≡ Value n) × (n < bound)
-below_parts bound MinusOne n e = let bad : ◌≡◌ {A = ℕ} 0 1 = cc in let no_way : ⊥ = omega arith in absurd no_way
-below_parts bound (Value m) n e = grind (arith, nat_tests)
-below_parts bound TooLong n e = let bad : ◌≡◌ {A = ℕ} 0 1 = cc in let no_way : ⊥ = omega arith in absurd no_way
-
-pub record Numbered (s : Place) (least most n : ℕ) (s1 : Place) : Type 0 where
+pub record Numbered (s : Place) (start end n : ℕ) (s1 : Place) : Type 0 where
   pub line : Line s (decimal n) s1
-  pub low : least ≤ n
-  pub high : n ≤ most
+  pub low : start ≤ n
+  pub high : n < end
 
-pub number-from : (least most : ℕ) (s : Place) (n : ℕ) (s1 : Place) → number_from least most s ≡ read n s1 → Numbered s least most n s1
-number-from least most s n s1 e =
+pub number-from : (start end : ℕ) (s : Place) (n : ℕ) (s1 : Place) → number_in start end s ≡ read n s1 → Numbered s start end n s1
+number-from start end s n s1 e =
     after (line_of s) _ n s1 e (λ l s2 e1 e2.
     after (given s2 (number_of l) cause.Number) _ n s1 e2 (λ x s3 e3 e4.
     let g = given-parts s2 (number_of l) cause.Number x s3 e3 in
-    let h = given-parts s3 (within_of least most x) cause.Range n s1 e4 in
-    let v = within-parts least most x n h.0 in
+    let h = given-parts s3 (in_range_of start end x) cause.Range n s1 e4 in
+    let v = in-range-parts start end x n h.0 in
     let d : l ≡ decimal n = decimal-from-number l n (g.0 ∙ ap Some v.0) in
     let f : s1 ≡ s2 = h.1 ∙ g.1 in
     let r = line-from s l s2 e1 in
     record { line = rw (← d, f) r; low = v.1; high = v.2 }))
 
-pub number-reads : (least most n : ℕ) (s : Place) (r : List ℕ) → s.rest ≡ (decimal n ++ 10 ∷ []) ++ r → least ≤ n → n ≤ most → most < 10 ^ 9 → number_from least most s ≡ read n (past s (decimal n) r)
-number-reads least most n s r e low high small =
+pub number-reads : (start end n : ℕ) (s : Place) (r : List ℕ) → s.rest ≡ (decimal n ++ 10 ∷ []) ++ r → start ≤ n → n < end → end ≤ 10 ^ 9 → number_in start end s ≡ read n (past s (decimal n) r)
+number-reads start end n s r e low high small =
     let p = prints-decimal n (omega arith) in
     let d = number-from-decimal n (omega arith) in
-    let w : within_of least most (Value n) ≡ Some n = grind (arith, nat_tests) in
-    rw (line_reads s (decimal n) r e p, d, w)
-
-pub record Counted (s : Place) (bound n : ℕ) (s1 : Place) : Type 0 where
-  pub line : Line s (decimal n) s1
-  pub high : n < bound
-
-pub below-from : (bound : ℕ) (s : Place) (n : ℕ) (s1 : Place) → below_from bound s ≡ read n s1 → Counted s bound n s1
-below-from bound s n s1 e =
-    after (line_of s) _ n s1 e (λ l s2 e1 e2.
-    after (given s2 (number_of l) cause.Number) _ n s1 e2 (λ x s3 e3 e4.
-    let g = given-parts s2 (number_of l) cause.Number x s3 e3 in
-    let h = given-parts s3 (below_of bound x) cause.Range n s1 e4 in
-    let v = below_parts bound x n h.0 in
-    let d : l ≡ decimal n = decimal-from-number l n (g.0 ∙ ap Some v.0) in
-    let f : s1 ≡ s2 = h.1 ∙ g.1 in
-    let r = line-from s l s2 e1 in
-    record { line = rw (← d, f) r; high = v.1 }))
-
-pub below-reads : (bound n : ℕ) (s : Place) (r : List ℕ) → s.rest ≡ (decimal n ++ 10 ∷ []) ++ r → n < bound → bound ≤ 10 ^ 9 → below_from bound s ≡ read n (past s (decimal n) r)
-below-reads bound n s r e high small =
-    let p = prints-decimal n (omega arith) in
-    let d = number-from-decimal n (omega arith) in
-    let w : below_of bound (Value n) ≡ Some n = grind (arith, nat_tests) in
+    let w : in_range_of start end (Value n) ≡ Some n = grind (arith, nat_tests) in
     rw (line_reads s (decimal n) r e p, d, w)
 
 -- a name

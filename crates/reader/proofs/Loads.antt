@@ -1,5 +1,5 @@
 -- What reading and making give together: exactly the texts of valid tasks are loaded, and each as its own task.
-use Rattle.std.proofs.Common.{◌≡◌, ℕ, ◌+◌, ◌-◌, ◌≤◌, Bool, true, false, cond, leb, List, length, get_or, take, replicate, None, Ok, Err, Result, sym, refl, ap, ◌∙◌, arith}
+use Rattle.std.proofs.Common.{◌≡◌, ℕ, ◌+◌, ◌-◌, ◌≤◌, Bool, true, false, cond, leb, List, length, get_or, take, replicate, None, Ok, Err, Result, sym, refl, ap, subst, ◌∙◌, arith}
 use Rattle.std.proofs.lemmas.List.{length-append, take_at, take-append-le}
 use Rattle.std.proofs.lemmas.Bool.{leb-true, le-leb}
 use Rattle.std.specs.List.{flat_map}
@@ -13,12 +13,12 @@ use Rattle.task.specs.declared.task.Task.{Task}
 use Rattle.tables.specs.Records.{zero_variable, zero_operator, zero_entry, spanned}
 use Rattle.tables.specs.Rules.{Rules}
 use Rattle.tables.specs.Lines.{nth_line}
-use Rattle.task.specs.Making.{Accepts, MadeOf, Put}
+use Rattle.task.specs.Making.{Accepts, MadeOf, Made}
 use Rattle.lines.specs.Reading.{Place, Step, read, refused, top}
 use Rattle.format.specs.Whole.{Held, Room, whole_of, room_of, outcome, task_of, counts_of, filled, TaskRead}
 use Rattle.reader.specs.Named.{NamedTask, Valid, entries_of}
 use Rattle.reader.specs.Rendering.{render}
-use Rattle.reader.specs.Loading.{Enough, Shows, Loaded}
+use Rattle.reader.specs.Loading.{Enough, Shows, Read, Loaded}
 use Rattle.reader.proofs.Whole.{whole_from}
 use Rattle.reader.proofs.WholeReads.{Stating, TextReads, whole-reads}
 use Rattle.reader.proofs.Rooms.{same-or-room}
@@ -133,38 +133,61 @@ read-err : (g : Result Held Fault) (f : Fault) (m : ℕ) (vs : List Variable) (n
 read-err (Ok h) f m vs n os k es r = let bad : ◌≡◌ {A = ℕ} 0 1 = cc r.0 in let no_way : ⊥ = omega arith in absurd no_way
 read-err (Err x) f m vs n os k es r = let same : f ≡ x = cc r.0 in ap Err (sym same)
 
-pub loaded-refused : (text : List ℕ) (m n k : ℕ) (f : Fault) (vs : List Variable) (os : List Operator) (es : List Entry) (t0 : Task) → TaskRead (task_of text (room_of m n k)) (Err f) m vs n os k es → Loaded text m n k (Err f) t0 t0
-loaded-refused text m n k f vs os es t0 r =
+pub read-refused : (text : List ℕ) (m n k : ℕ) (f : Fault) (vs : List Variable) (os : List Operator) (es : List Entry) → TaskRead (task_of text (room_of m n k)) (Err f) m vs n os k es → Read text m n k (Err f)
+read-refused text m n k f vs os es r =
     let g = read-err (task_of text (room_of m n k)) f m vs n os k es r in
     record {
-      accepted = λ e. (let bad : ◌≡◌ {A = ℕ} 0 1 = cc in let no_way : ⊥ = omega arith in absurd no_way);
+      accepted = λ u e. (let bad : ◌≡◌ {A = ℕ} 0 1 = cc in let no_way : ⊥ = omega arith in absurd no_way);
       accepts = λ t valid enough short bytes. (let q = task-reads text m n k t valid enough short bytes in let bad : ◌≡◌ {A = ℕ} 0 1 = cc (q.reads, g) in let no_way : ⊥ = omega arith in absurd no_way);
       wider = λ m1 n1 k1. same-or-room text m n k m1 n1 k1;
-      refused = λ f1 e. (let same : f ≡ f1 = cc in (g ∙ ap Err same, refl));
+      refused = λ f1 e. (let same : f ≡ f1 = cc in g ∙ ap Err same);
     }
 
 -- a reading that was accepted, and the making after it
-made_of : (text : List ℕ) (m n k : ℕ) (h : Held) (vs : List Variable) (os : List Operator) (es : List Entry) (r : Result (Unit {0}) Fault) (t0 u : Task) (t : NamedTask) → Kept h m vs n os k es → TaskFrom text m n k h t → Put text vs os es (counts_of h) r t0 u → task_of text (room_of m n k) ≡ Ok h → Loaded text m n k r t0 u
-made_of text m n k h vs os es (Ok x) t0 u t kept from put e =
-    let s = shown text t h m vs n os k es u kept from.valid from.states put.1 in
+made_of : (text : List ℕ) (m n k : ℕ) (h : Held) (vs : List Variable) (os : List Operator) (es : List Entry) (r : Result Task Fault) (t : NamedTask) → Kept h m vs n os k es → TaskFrom text m n k h t → Made text vs os es (counts_of h) r → task_of text (room_of m n k) ≡ Ok h → Read text m n k r
+made_of text m n k h vs os es (Ok u) t kept from made e =
+    let showing = λ (w : Task) (same : u ≡ w). (let P : Task → Type 0 = λ x. Shows x t in subst P same (shown text t h m vs n os k es u kept from.valid from.states made.1)) in
     record {
-      accepted = λ _. (t, from.valid, from.enough, from.short, from.bytes, s);
+      accepted = λ w o. (let same : u ≡ w = cc in (t, from.valid, from.enough, from.short, from.bytes, showing w same));
       accepts = λ t1 valid enough short bytes.
           (let q = task-reads text m n k t1 valid enough short bytes in
           let same : q.held ≡ h = cc (q.reads, e) in
           let st : Stating text t1 h = rw same at q.states in
-          (refl, shown text t1 h m vs n os k es u kept valid st put.1));
+          (u, refl, shown text t1 h m vs n os k es u kept valid st made.1));
       wider = λ m1 n1 k1. same-or-room text m n k m1 n1 k1;
       refused = λ f1 g. (let bad : ◌≡◌ {A = ℕ} 0 1 = cc in let no_way : ⊥ = omega arith in absurd no_way);
     }
-made_of text m n k h vs os es (Err f) t0 u t kept from put e = absurd (put.0 (accepted text t h m vs n os k es kept from.valid from.states))
+made_of text m n k h vs os es (Err f) t kept from made e = absurd (made.0 (accepted text t h m vs n os k es kept from.valid from.states))
 
 read_ok : {C : Type 0} (g : Result Held Fault) (c : Counts) (m : ℕ) (vs : List Variable) (n : ℕ) (os : List Operator) (k : ℕ) (es : List Entry) → TaskRead g (Ok c) m vs n os k es → ((h : Held) → g ≡ Ok h → counts_of h ≡ c → Kept h m vs n os k es → C) → C
 read_ok (Ok h) c m vs n os k es r next = let same : c ≡ counts_of h = cc r.0 in next h refl (sym same) (record { variables = r.1; operators = r.2; entries = r.3 })
 read_ok (Err x) c m vs n os k es r next = let bad : ◌≡◌ {A = ℕ} 0 1 = cc r.0 in let no_way : ⊥ = omega arith in absurd no_way
 
-pub loaded-accepted : (text : List ℕ) (m n k : ℕ) (c : Counts) (vs : List Variable) (os : List Operator) (es : List Entry) (r : Result (Unit {0}) Fault) (t0 u : Task) → TaskRead (task_of text (room_of m n k)) (Ok c) m vs n os k es → Put text vs os es c r t0 u → Loaded text m n k r t0 u
-loaded-accepted text m n k c vs os es r t0 u q put =
+pub read-accepted : (text : List ℕ) (m n k : ℕ) (c : Counts) (vs : List Variable) (os : List Operator) (es : List Entry) (r : Result Task Fault) → TaskRead (task_of text (room_of m n k)) (Ok c) m vs n os k es → Made text vs os es c r → Read text m n k r
+read-accepted text m n k c vs os es r q made =
     read_ok (task_of text (room_of m n k)) c m vs n os k es q (λ h e same kept.
     task-from text m n k h e (λ t from.
-    made_of text m n k h vs os es r t0 u t kept from (rw same put) e))
+    made_of text m n k h vs os es r t kept from (rw same made) e))
+
+-- the task that is answered, put in a task's place
+pub loaded-accepted : (text : List ℕ) (m n k : ℕ) (t0 u : Task) → Read text m n k (Ok u) → Loaded text m n k (Ok tt) t0 u
+loaded-accepted text m n k t0 u q =
+    record {
+      accepted = λ _. q.accepted u refl;
+      accepts = λ t valid enough short bytes.
+          (let a = q.accepts t valid enough short bytes in
+          let same : a.0 ≡ u = cc (a.1) in
+          let P : Task → Type 0 = λ x. Shows x t in
+          (refl, subst P same a.2));
+      wider = q.wider;
+      refused = λ f e. (let bad : ◌≡◌ {A = ℕ} 0 1 = cc in let no_way : ⊥ = omega arith in absurd no_way);
+    }
+
+pub loaded-refused : (text : List ℕ) (m n k : ℕ) (f : Fault) (t0 : Task) → Read text m n k (Err f) → Loaded text m n k (Err f) t0 t0
+loaded-refused text m n k f t0 q =
+    record {
+      accepted = λ e. (let bad : ◌≡◌ {A = ℕ} 0 1 = cc in let no_way : ⊥ = omega arith in absurd no_way);
+      accepts = λ t valid enough short bytes. (let a = q.accepts t valid enough short bytes in let bad : ◌≡◌ {A = ℕ} 0 1 = cc (a.1) in let no_way : ⊥ = omega arith in absurd no_way);
+      wider = q.wider;
+      refused = λ f1 e. (let same : f ≡ f1 = cc in (q.refused f1 (ap Err same), refl));
+    }

@@ -11,14 +11,13 @@ use Rattle.tables.specs.declared.records.Entry.{Entry}
 use Rattle.tables.specs.Records.{spanned}
 use Rattle.tables.specs.Rules.{SpanFits, Distinct}
 use Rattle.lines.specs.Reading.{Place, Step, read, and_then, tested, word_of, below_from, name_of, turns}
-use Rattle.sections.specs.declared.entries.Shape.TheVariants.{Fact, Effect}
-use Rattle.sections.specs.Entries.{group_of}
+use Rattle.sections.specs.Entries.{fact_numbers, effect_numbers, group_of}
 use Rattle.sections.specs.Operators.{operator_of, operator_more, inside}
 use Rattle.reader.specs.Named.{NamedOperator, ValidOperator, entries_of}
 use Rattle.reader.specs.Rendering.{spelled, operator_lines, fact_line, effect_line}
-use Rattle.reader.proofs.Leaves.{after, tested-parts, past, span, Stands, stands-past, Line, word-from, word-reads, below-from, below-reads, name-from, name-reads, span-bytes, span_fits, spelled-append}
+use Rattle.reader.proofs.Leaves.{after, tested-parts, past, span, Stands, stands-past, Line, word-from, word-reads, number-from, number-reads, name-from, name-reads, span-bytes, span_fits, spelled-append}
 use Rattle.reader.proofs.Distinct.{distinct_none, distinct-front}
-use Rattle.reader.proofs.Entries.{domains, length-domains, Group, group-from, group_reads}
+use Rattle.reader.proofs.Entries.{domains, length-domains, fact, effect, Group, group-from, group_reads}
 
 pub with_it : {A C : Type 0} → A → (A → C) → C
 with_it a k = k a
@@ -44,8 +43,8 @@ pub record More (vs : List Variable) (rooms room : ℕ) (os : List Operator) (es
 -- the operator of what was read
 more-made : (vs : List Variable) (rooms room : ℕ) (os : List Operator) (es : List Entry) (s : Place) (os1 : List Operator) (es1 : List Entry) (s1 : Place)
     (l : List ℕ) (cs fs : List Entry) (price conditions effects : ℕ) (made : Operator) (es2 : List Entry) (a1 a2 a3 a4 a5 a6 a7 : Place)
-    → Line s (codes "begin_operator") a1 → Line a1 l a2 → Line a2 (decimal conditions) a3 → conditions < length vs + 1 → Group Fact vs room (length es) conditions es a3 es2 a4 cs
-    → Line a4 (decimal effects) a5 → effects < length vs + 1 → Group Effect vs room (length es) effects es2 a5 es1 a6 fs → Line a6 (decimal price) a7 → price < 65536 → Line a7 (codes "end_operator") s1
+    → Line s (codes "begin_operator") a1 → Line a1 l a2 → Line a2 (decimal conditions) a3 → conditions < length vs + 1 → Group fact vs room (length es) conditions es a3 es2 a4 cs
+    → Line a4 (decimal effects) a5 → effects < length vs + 1 → Group effect vs room (length es) effects es2 a5 es1 a6 fs → Line a6 (decimal price) a7 → price < 65536 → Line a7 (codes "end_operator") s1
     → length os < rooms → os1 ≡ os ++ made ∷ [] → More vs rooms room os es s os1 es1 s1 (record { name = l; action = record { price = price; conditions = cs; effects = fs } })
 more-made vs rooms room os es s os1 es1 s1 l cs fs price conditions effects made es2 a1 a2 a3 a4 a5 a6 a7 l1 l2 l3 n3 g4 l5 n5 g6 l7 n7 l8 free pushed =
     let o : NamedOperator = record { name = l; action = record { price = price; conditions = cs; effects = fs } } in
@@ -88,23 +87,23 @@ more-from vs rooms room os es s os1 es1 s1 e fits h =
     after (operator_of vs room es a2) _ b1 s1 f2 (λ made a9 e9 f9.
     after (name_of a2) _ made a9 e9 (λ name a3 e3 f3.
     after (below_from (length vs + 1) a3) _ made a9 f3 (λ conditions a4 e4 f4.
-    after (group_of Fact vs room (length es) conditions es a4) _ made a9 f4 (λ es2 a5 e5 f5.
+    after (group_of fact_numbers vs room (length es) conditions es a4) _ made a9 f4 (λ es2 a5 e5 f5.
     after (below_from (length vs + 1) a5) _ made a9 f5 (λ effects a6 e6 f6.
-    after (group_of Effect vs room (length es) effects es2 a6) _ made a9 f6 (λ es3 a7 e7 f7.
+    after (group_of effect_numbers vs room (length es) effects es2 a6) _ made a9 f6 (λ es3 a7 e7 f7.
     after (below_from 65536 a7) _ made a9 f7 (λ price a8 e8 f8.
     after (word_of (codes "end_operator") a8) _ made a9 f8 (λ u10 a10 e10 f10.
     name-from a2 name a3 e3 (λ l named.
-    group-from Fact vs room (length es) conditions es a4 es2 a5 e5 (omega arith) fits (start-distinct es) (λ cs g5.
+    group-from fact vs room (length es) conditions es a4 es2 a5 e5 (omega arith) fits (start-distinct es) (λ cs g5.
     let t2 = tested-parts a1 (ltb (length os) rooms) cause.Room u2 a2 e2 in
     let part : drop (length es) es2 ≡ cs = ap (λ z. drop (length es) z) g5.made ∙ drop_at es cs (length es) refl in
     let none : drop (length es) es ≡ [] = drop_all (length es) es (omega arith) in
     let d5 : Distinct (drop (length es) es2) = rw part (rw none at g5.distinct) in
     let len2 : length es2 ≡ length es + length cs = ap length g5.made ∙ length-append es cs in
-    group-from Effect vs room (length es) effects es2 a6 es3 a7 e7 (omega arith) (omega (arith, g5.free, g5.count)) d5 (λ fs g7.
+    group-from effect vs room (length es) effects es2 a6 es3 a7 e7 (omega arith) (omega (arith, g5.free, g5.count)) d5 (λ fs g7.
     let l1 : Line s (codes "begin_operator") a1 = record { bytes = (word-from (codes "begin_operator") (inside (Some (length os)) s) u1 a1 e1).bytes; prints = refl } in
-    let l4 = below-from (length vs + 1) a3 conditions a4 e4 in
-    let l6 = below-from (length vs + 1) a5 effects a6 e6 in
-    let l8 = below-from 65536 a7 price a8 e8 in
+    let l4 = number-from 0 (length vs + 1) a3 conditions a4 e4 in
+    let l6 = number-from 0 (length vs + 1) a5 effects a6 e6 in
+    let l8 = number-from 0 65536 a7 price a8 e8 in
     let l10 = word-from (codes "end_operator") a8 u10 a10 e10 in
     let made-is : ◌≡◌ {A = Operator × List Entry} (record { name = name; price = price; first = length es; conditions = conditions; effects = effects }, es3) made = cc in
     let a9-is : a10 ≡ a9 = cc in
@@ -112,7 +111,7 @@ more-from vs rooms room os es s os1 es1 s1 e fits h =
     let b1-is : ◌≡◌ {A = List Operator × List Entry} (os ++ made.0 ∷ [], made.1) (os1, es1) = cc in
     let os-is : os1 ≡ os ++ made.0 ∷ [] = sym (ap (λ z. z.0) b1-is) in
     let es-is : es3 ≡ es1 = ap (λ z. z.1) made-is ∙ ap (λ z. z.1) b1-is in
-    let g7' : Group Effect vs room (length es) effects es2 a6 es1 a7 fs = rw (← es-is) g7 in
+    let g7' : Group effect vs room (length es) effects es2 a6 es1 a7 fs = rw (← es-is) g7 in
     let l10' : Line a8 (codes "end_operator") s1 = rw (← s1-is, ← a9-is) l10 in
     let l2 : Line a1 l a3 = rw t2.1 at named in
     h (record { name = l; action = record { price = price; conditions = cs; effects = fs } })
@@ -140,7 +139,7 @@ pub record MoreReads (text : List ℕ) (vs : List Variable) (rooms room : ℕ) (
 abbrev tail_of : List Variable → ℕ → List Entry → List Entry → Span → Place → Step (Operator × List Entry)
 tail_of vs room es cs name s =
     and_then (below_from (length vs + 1) s) (λ effects s4.
-    and_then (group_of Effect vs room (length es) effects (es ++ cs) s4) (λ es2 s5.
+    and_then (group_of effect_numbers vs room (length es) effects (es ++ cs) s4) (λ es2 s5.
     and_then (below_from 65536 s5) (λ price s6.
     and_then (word_of (codes "end_operator") s6) (λ _ s7.
     read (record { name = name; price = price; first = length es; conditions = length cs; effects = effects }, es2) s7))))
@@ -166,14 +165,14 @@ tail-reads text vs room es name s o r few small free valid e st =
     let s1 = past s (decimal (length fs)) r1 in
     let t1 = stands-past text s (decimal (length fs)) r1 st e in
     let ld = length-domains vs in
-    let w1 = below-reads (length vs + 1) (length fs) s r1 e (omega (arith, valid.few_effects)) (omega arith) in
+    let w1 = number-reads 0 (length vs + 1) (length fs) s r1 e (omega arith) (omega (arith, valid.few_effects)) (omega arith) in
     let part : drop (length es) (es ++ cs) ≡ cs = drop_at es cs (length es) refl in
     let d : Distinct (drop (length es) (es ++ cs) ++ fs) = rw part valid.distinct in
     let below : length es ≤ length (es ++ cs) = omega (arith, length-append es cs) in
-    with_it (group_reads text Effect vs room (length es) fs (es ++ cs) s1 r2 few small valid.effects below d free refl t1) (λ g.
+    with_it (group_reads text effect vs room (length es) fs (es ++ cs) s1 r2 few small valid.effects below d free refl t1) (λ g.
     let s3 = past g.to (decimal o.action.price) r3 in
     let t3 = stands-past text g.to (decimal o.action.price) r3 g.stands g.rest in
-    let w3 = below-reads 65536 o.action.price g.to r3 g.rest (omega (arith, valid.price)) (omega arith) in
+    let w3 = number-reads 0 65536 o.action.price g.to r3 g.rest (omega arith) (omega (arith, valid.price)) (omega arith) in
     let w4 = word-reads (codes "end_operator") s3 r refl refl in
     record {
       to = past s3 (codes "end_operator") r;
@@ -206,11 +205,11 @@ more-reads text vs rooms room os es s o r few small free stored valid e st =
     let w1 = word-reads (codes "begin_operator") s0 r0 e0 refl in
     let f1 : ltb (length os) rooms ≡ true = lt-ltb (length os) rooms free in
     let w2 = name-reads o.name s1 r1 refl valid.name in
-    let w3 = below-reads (length vs + 1) (length cs) s2 r2 refl (omega (arith, valid.few_conditions)) (omega arith) in
+    let w3 = number-reads 0 (length vs + 1) (length cs) s2 r2 refl (omega arith) (omega (arith, valid.few_conditions)) (omega arith) in
     let start : drop (length es) es ≡ [] = drop_all (length es) es (omega arith) in
     let d : Distinct (drop (length es) es ++ cs) = rw start (distinct-front cs fs valid.distinct) in
     let line : r0 ≡ o.name ++ (10 ∷ r1) = append_assoc o.name (10 ∷ []) r1 in
-    with_it (group_reads text Fact vs room (length es) cs es s3 r3 few small valid.conditions (omega arith) d (omega arith) refl t3) (λ g.
+    with_it (group_reads text fact vs room (length es) cs es s3 r3 few small valid.conditions (omega arith) d (omega arith) refl t3) (λ g.
     with_it (tail-reads text vs room es (span s1 o.name) g.to o r few small (omega (arith, length-append es cs)) valid g.rest g.stands) (λ t.
     record {
       made = record { name = span s1 o.name; price = o.action.price; first = length es; conditions = length cs; effects = length fs };

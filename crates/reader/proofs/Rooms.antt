@@ -12,12 +12,10 @@ use Rattle.tables.specs.declared.records.Entry.{Entry}
 use Rattle.tables.specs.Lines.{cut_line}
 use Rattle.lines.specs.Printable.{printable}
 use Rattle.lines.specs.declared.number.Number.{Number}
-use Rattle.lines.specs.Numbers.{number_of, within_of, below_of}
-use Rattle.lines.specs.Reading.{Place, Step, refused, read, and_then, tested, given, taken, fault_next, line_of, word_of, number_from, below_from, name_of, turns, passed, top}
-use Rattle.sections.specs.declared.entries.Shape.{Shape}
-use Rattle.sections.specs.declared.entries.Shape.TheVariants.{Fact, Effect}
+use Rattle.lines.specs.Numbers.{number_of, in_range_of}
+use Rattle.lines.specs.Reading.{Place, Step, refused, read, and_then, tested, given, taken, fault_next, line_of, word_of, number_in, number_from, below_from, name_of, turns, passed, top}
 use Rattle.sections.specs.Variables.{variable_of, variable_more, initials_of, with_initial}
-use Rattle.sections.specs.Entries.{numbers_of, entry_in, names, entry_of, entry_more, group_of}
+use Rattle.sections.specs.Entries.{fact_numbers, effect_numbers, entry_in, names, entry_of, entry_more, group_of}
 use Rattle.sections.specs.Operators.{operator_of, operator_more, operators_of, inside}
 use Rattle.format.specs.Whole.{Held, Room, heading_of, state_of, goal_of, ended, body_of, whole_of, room_of, outcome, task_of}
 use Rattle.reader.specs.Loading.{NotBefore, SameOrRoom}
@@ -52,15 +50,10 @@ later-line n s h =
 later-word : (n : ℕ) (w : List ℕ) (s : Place) → n ≤ s.line → Later n (word_of w s)
 later-word n w s h = later-then n (line_of s) _ (later-line n s h) (λ bs s1 h1. later-tested n s1 (bytes_eq bs w) cause.Word h1)
 
-later-number : (n least most : ℕ) (s : Place) → n ≤ s.line → Later n (number_from least most s)
-later-number n least most s h =
+later-number : (n start end : ℕ) (s : Place) → n ≤ s.line → Later n (number_in start end s)
+later-number n start end s h =
     later-then n (line_of s) _ (later-line n s h) (λ bs s1 h1.
-    later-then n (given s1 (number_of bs) cause.Number) _ (later-given n s1 (number_of bs) cause.Number h1) (λ x s2 h2. later-given n s2 (within_of least most x) cause.Range h2))
-
-later-below : (n bound : ℕ) (s : Place) → n ≤ s.line → Later n (below_from bound s)
-later-below n bound s h =
-    later-then n (line_of s) _ (later-line n s h) (λ bs s1 h1.
-    later-then n (given s1 (number_of bs) cause.Number) _ (later-given n s1 (number_of bs) cause.Number h1) (λ x s2 h2. later-given n s2 (below_of bound x) cause.Range h2))
+    later-then n (given s1 (number_of bs) cause.Number) _ (later-given n s1 (number_of bs) cause.Number h1) (λ x s2 h2. later-given n s2 (in_range_of start end x) cause.Range h2))
 
 later-name : (n : ℕ) (s : Place) → n ≤ s.line → Later n (name_of s)
 later-name n s h = later-then n (line_of s) _ (later-line n s h) (λ bs s1 h1. h1)
@@ -74,7 +67,7 @@ later-variable : (n : ℕ) (s : Place) → n ≤ s.line → Later n (variable_of
 later-variable n s h =
     later-then n (name_of s) _ (later-name n s h) (λ name s1 h1.
     later-then n (word_of (codes "-1") s1) _ (later-word n (codes "-1") s1 h1) (λ _ s2 h2.
-    later-then n (number_from 1 255 s2) _ (later-number n 1 255 s2 h2) (λ domain s3 h3.
+    later-then n (number_from 1 255 s2) _ (later-number n 1 256 s2 h2) (λ domain s3 h3.
     later-then n (turns domain passed tt s3) _ (later-turns n domain passed (λ u z l. later-then n (line_of z) _ (later-line n z l) (λ _ z1 l1. l1)) tt s3 h3) (λ _ s4 h4.
     later-then n (word_of (codes "end_variable") s4) _ (later-word n (codes "end_variable") s4 h4) (λ _ s5 h5. h5)))))
 
@@ -87,29 +80,29 @@ later-variables n room vs s h =
 
 later-initials : (n : ℕ) (done vs : List Variable) (s : Place) → n ≤ s.line → Later n (initials_of done vs s)
 later-initials n done [] s h = h
-later-initials n done (v ∷ vs) s h = later-then n (below_from v.domain s) _ (later-below n v.domain s h) (λ x s1 h1. later-initials n (done ++ with_initial v x ∷ []) vs s1 h1)
+later-initials n done (v ∷ vs) s h = later-then n (below_from v.domain s) _ (later-number n 0 v.domain s h) (λ x s1 h1. later-initials n (done ++ with_initial v x ∷ []) vs s1 h1)
 
-later-entry : (n : ℕ) (shape : Shape) (vs : List Variable) (group : List Entry) (free : Bool) (s : Place) → n ≤ s.line → Later n (entry_of shape vs group free s)
-later-entry n shape vs group free s h =
+later-entry : (n : ℕ) (numbers : List ℕ → Option (Number × Number × Number × Number)) (vs : List Variable) (group : List Entry) (free : Bool) (s : Place) → n ≤ s.line → Later n (entry_of numbers vs group free s)
+later-entry n numbers vs group free s h =
     later-then n (line_of s) _ (later-line n s h) (λ bs s1 h1.
-    later-then n (given s1 (numbers_of shape bs) cause.Number) _ (later-given n s1 (numbers_of shape bs) cause.Number h1) (λ ns s2 h2.
+    later-then n (given s1 (numbers bs) cause.Number) _ (later-given n s1 (numbers bs) cause.Number h1) (λ ns s2 h2.
     later-then n (given s2 (entry_in vs ns) cause.Range) _ (later-given n s2 (entry_in vs ns) cause.Range h2) (λ e s3 h3.
     later-then n (tested s3 (not (names e.variable group)) cause.Twice) _ (later-tested n s3 (not (names e.variable group)) cause.Twice h3) (λ _ s4 h4.
     later-then n (tested s4 free cause.Room) _ (later-tested n s4 free cause.Room h4) (λ _ s5 h5. h5)))))
 
-later-group : (n : ℕ) (shape : Shape) (vs : List Variable) (room first count : ℕ) (es : List Entry) (s : Place) → n ≤ s.line → Later n (group_of shape vs room first count es s)
+later-group : (n : ℕ) (numbers : List ℕ → Option (Number × Number × Number × Number)) (vs : List Variable) (room first count : ℕ) (es : List Entry) (s : Place) → n ≤ s.line → Later n (group_of numbers vs room first count es s)
 unfolding entry_more
-later-group n shape vs room first count es s h =
-    later-turns n count (entry_more shape vs room first) (λ b z l. later-then n (entry_of shape vs (drop first b) (ltb (length b) room) z) _ (later-entry n shape vs (drop first b) (ltb (length b) room) z l) (λ e z1 l1. l1)) es s h
+later-group n numbers vs room first count es s h =
+    later-turns n count (entry_more numbers vs room first) (λ b z l. later-then n (entry_of numbers vs (drop first b) (ltb (length b) room) z) _ (later-entry n numbers vs (drop first b) (ltb (length b) room) z l) (λ e z1 l1. l1)) es s h
 
 later-operator : (n : ℕ) (vs : List Variable) (room : ℕ) (es : List Entry) (s : Place) → n ≤ s.line → Later n (operator_of vs room es s)
 later-operator n vs room es s h =
     later-then n (name_of s) _ (later-name n s h) (λ name s1 h1.
-    later-then n (below_from (length vs + 1) s1) _ (later-below n (length vs + 1) s1 h1) (λ conditions s2 h2.
-    later-then n (group_of Fact vs room (length es) conditions es s2) _ (later-group n Fact vs room (length es) conditions es s2 h2) (λ es1 s3 h3.
-    later-then n (below_from (length vs + 1) s3) _ (later-below n (length vs + 1) s3 h3) (λ effects s4 h4.
-    later-then n (group_of Effect vs room (length es) effects es1 s4) _ (later-group n Effect vs room (length es) effects es1 s4 h4) (λ es2 s5 h5.
-    later-then n (below_from 65536 s5) _ (later-below n 65536 s5 h5) (λ price s6 h6.
+    later-then n (below_from (length vs + 1) s1) _ (later-number n 0 (length vs + 1) s1 h1) (λ conditions s2 h2.
+    later-then n (group_of fact_numbers vs room (length es) conditions es s2) _ (later-group n fact_numbers vs room (length es) conditions es s2 h2) (λ es1 s3 h3.
+    later-then n (below_from (length vs + 1) s3) _ (later-number n 0 (length vs + 1) s3 h3) (λ effects s4 h4.
+    later-then n (group_of effect_numbers vs room (length es) effects es1 s4) _ (later-group n effect_numbers vs room (length es) effects es1 s4 h4) (λ es2 s5 h5.
+    later-then n (below_from 65536 s5) _ (later-number n 0 65536 s5 h5) (λ price s6 h6.
     later-then n (word_of (codes "end_operator") s6) _ (later-word n (codes "end_operator") s6 h6) (λ _ s7 h7. h7)))))))
 
 later-operator-more : (n : ℕ) (vs : List Variable) (rooms room : ℕ) (b : List Operator × List Entry) (s : Place) → n ≤ s.line → Later n (operator_more vs rooms room b s)
@@ -141,8 +134,8 @@ later-state n vs s h =
 later-goal : (n : ℕ) (vs : List Variable) (room : ℕ) (s : Place) → n ≤ s.line → Later n (goal_of vs room s)
 later-goal n vs room s h =
     later-then n (word_of (codes "begin_goal") s) _ (later-word n (codes "begin_goal") s h) (λ _ s1 h1.
-    later-then n (below_from (length vs + 1) s1) _ (later-below n (length vs + 1) s1 h1) (λ count s2 h2.
-    later-then n (group_of Fact vs room 0 count [] s2) _ (later-group n Fact vs room 0 count [] s2 h2) (λ es s3 h3.
+    later-then n (below_from (length vs + 1) s1) _ (later-number n 0 (length vs + 1) s1 h1) (λ count s2 h2.
+    later-then n (group_of fact_numbers vs room 0 count [] s2) _ (later-group n fact_numbers vs room 0 count [] s2 h2) (λ es s3 h3.
     later-then n (word_of (codes "end_goal") s3) _ (later-word n (codes "end_goal") s3 h3) (λ _ s4 h4. h4))))
 
 -- from the operators' number on
@@ -159,7 +152,7 @@ later_last n ws gs b s h = later-then n (word_of (codes "0") s) _ (later-word n 
 
 later-part : (n : ℕ) (ws : List Variable) (rooms room : ℕ) (gs : List Entry) (s : Place) → n ≤ s.line → Later n (operators_part ws rooms room gs s)
 later-part n ws rooms room gs s h =
-    later-then n (below_from 257 s) _ (later-below n 257 s h) (λ c s3 h3.
+    later-then n (below_from 257 s) _ (later-number n 0 257 s h) (λ c s3 h3.
     later-then n (operators_of ws rooms room c gs s3) _ (later-operators n ws rooms room c gs s3 h3) (λ b s4 h4. later_last n ws gs b s4 h4))
 
 later-body : (n : ℕ) (vs : List Variable) (rooms room : ℕ) (s : Place) → n ≤ s.line → Later n (body_of vs rooms room s)
@@ -212,19 +205,19 @@ alike-variables room wider le vs s =
     pushed : (n : ℕ) (s2 : Place) → n ≤ s2.line → Later n (and_then (variable_of s2) (λ v s3. read (vs ++ v ∷ []) s3))
     pushed n s2 h = later-then n (variable_of s2) _ (later-variable n s2 h) (λ v s3 h3. h3)
 
-alike-entry : (shape : Shape) (vs : List Variable) (room wider first : ℕ) → room ≤ wider → (es : List Entry) (s : Place) → Alike (entry_more shape vs room first es s) (entry_more shape vs wider first es s)
+alike-entry : (numbers : List ℕ → Option (Number × Number × Number × Number)) (vs : List Variable) (room wider first : ℕ) → room ≤ wider → (es : List Entry) (s : Place) → Alike (entry_more numbers vs room first es s) (entry_more numbers vs wider first es s)
 unfolding entry_more
-alike-entry shape vs room wider first le es s =
-    alike_then (entry_of shape vs (drop first es) (ltb (length es) room) s) (entry_of shape vs (drop first es) (ltb (length es) wider) s) _ _
+alike-entry numbers vs room wider first le es s =
+    alike_then (entry_of numbers vs (drop first es) (ltb (length es) room) s) (entry_of numbers vs (drop first es) (ltb (length es) wider) s) _ _
     (alike_then (line_of s) (line_of s) _ _ (inl refl)
-    (λ bs s1. alike_then (given s1 (numbers_of shape bs) cause.Number) (given s1 (numbers_of shape bs) cause.Number) _ _ (inl refl)
+    (λ bs s1. alike_then (given s1 (numbers bs) cause.Number) (given s1 (numbers bs) cause.Number) _ _ (inl refl)
     (λ ns s2. alike_then (given s2 (entry_in vs ns) cause.Range) (given s2 (entry_in vs ns) cause.Range) _ _ (inl refl)
     (λ e s3. alike_then (tested s3 (not (names e.variable (drop first es))) cause.Twice) (tested s3 (not (names e.variable (drop first es))) cause.Twice) _ _ (inl refl)
     (λ _ s4. alike_then (tested s4 (ltb (length es) room) cause.Room) (tested s4 (ltb (length es) wider) cause.Room) _ _ (alike-room s4 (length es) room wider le) (λ _ s5. inl refl) (λ n _ s5 h. h))
     (λ n _ s4 h. free n e s4 h))
     (λ n e s3 h. new n e s3 h))
     (λ n ns s2 h. ranged n ns s2 h))
-    (λ n bs s1 h. later-then n (given s1 (numbers_of shape bs) cause.Number) _ (later-given n s1 (numbers_of shape bs) cause.Number h) (λ ns s2 h2. ranged n ns s2 h2)))
+    (λ n bs s1 h. later-then n (given s1 (numbers bs) cause.Number) _ (later-given n s1 (numbers bs) cause.Number h) (λ ns s2 h2. ranged n ns s2 h2)))
     (λ e s1. inl refl) (λ n e s1 h. h)
   where
     free : (n : ℕ) (e : Entry) (s4 : Place) → n ≤ s4.line → Later n (and_then (tested s4 (ltb (length es) wider) cause.Room) (λ _ s5. read e s5))
@@ -236,19 +229,19 @@ alike-entry shape vs room wider first le es s =
     ranged : (n : ℕ) (ns : Number × Number × Number × Number) (s2 : Place) → n ≤ s2.line → Later n (and_then (given s2 (entry_in vs ns) cause.Range) (λ e s3. and_then (tested s3 (not (names e.variable (drop first es))) cause.Twice) (λ _ s4. and_then (tested s4 (ltb (length es) wider) cause.Room) (λ _ s5. read e s5))))
     ranged n ns s2 h = later-then n (given s2 (entry_in vs ns) cause.Range) _ (later-given n s2 (entry_in vs ns) cause.Range h) (λ e s3 h3. new n e s3 h3)
 
-alike-group : (shape : Shape) (vs : List Variable) (room wider first count : ℕ) → room ≤ wider → (es : List Entry) (s : Place) → Alike (group_of shape vs room first count es s) (group_of shape vs wider first count es s)
+alike-group : (numbers : List ℕ → Option (Number × Number × Number × Number)) (vs : List Variable) (room wider first count : ℕ) → room ≤ wider → (es : List Entry) (s : Place) → Alike (group_of numbers vs room first count es s) (group_of numbers vs wider first count es s)
 unfolding entry_more
-alike-group shape vs room wider first count le es s =
-    alike-turns count (entry_more shape vs room first) (entry_more shape vs wider first) (alike-entry shape vs room wider first le) (λ n b z h. later-entry-more n b z h) es s
+alike-group numbers vs room wider first count le es s =
+    alike-turns count (entry_more numbers vs room first) (entry_more numbers vs wider first) (alike-entry numbers vs room wider first le) (λ n b z h. later-entry-more n b z h) es s
   where
-    later-entry-more : (n : ℕ) (b : List Entry) (z : Place) → n ≤ z.line → Later n (entry_more shape vs wider first b z)
-    later-entry-more n b z h = later-then n (entry_of shape vs (drop first b) (ltb (length b) wider) z) _ (later-entry n shape vs (drop first b) (ltb (length b) wider) z h) (λ e z1 l1. l1)
+    later-entry-more : (n : ℕ) (b : List Entry) (z : Place) → n ≤ z.line → Later n (entry_more numbers vs wider first b z)
+    later-entry-more n b z h = later-then n (entry_of numbers vs (drop first b) (ltb (length b) wider) z) _ (later-entry n numbers vs (drop first b) (ltb (length b) wider) z h) (λ e z1 l1. l1)
 
 -- an operator after its conditions
 abbrev effects_part : List Variable → ℕ → List Entry → Span → ℕ → List Entry → Place → Step (Operator × List Entry)
 effects_part vs room es name conditions es1 s =
     and_then (below_from (length vs + 1) s) (λ effects s4.
-    and_then (group_of Effect vs room (length es) effects es1 s4) (λ es2 s5.
+    and_then (group_of effect_numbers vs room (length es) effects es1 s4) (λ es2 s5.
     and_then (below_from 65536 s5) (λ price s6.
     and_then (word_of (codes "end_operator") s6) (λ _ s7.
     read (record { name = name; price = price; first = length es; conditions = conditions; effects = effects }, es2) s7))))
@@ -261,34 +254,34 @@ price_part es name conditions effects es2 s =
 
 later-price : (n : ℕ) (es : List Entry) (name : Span) (conditions effects : ℕ) (es2 : List Entry) (s : Place) → n ≤ s.line → Later n (price_part es name conditions effects es2 s)
 later-price n es name conditions effects es2 s h =
-    later-then n (below_from 65536 s) _ (later-below n 65536 s h) (λ price s6 h6.
+    later-then n (below_from 65536 s) _ (later-number n 0 65536 s h) (λ price s6 h6.
     later-then n (word_of (codes "end_operator") s6) _ (later-word n (codes "end_operator") s6 h6) (λ _ s7 h7. h7))
 
 later-effects : (n : ℕ) (vs : List Variable) (room : ℕ) (es : List Entry) (name : Span) (conditions : ℕ) (es1 : List Entry) (s : Place) → n ≤ s.line → Later n (effects_part vs room es name conditions es1 s)
 later-effects n vs room es name conditions es1 s h =
-    later-then n (below_from (length vs + 1) s) _ (later-below n (length vs + 1) s h) (λ effects s4 h4.
-    later-then n (group_of Effect vs room (length es) effects es1 s4) _ (later-group n Effect vs room (length es) effects es1 s4 h4) (λ es2 s5 h5. later-price n es name conditions effects es2 s5 h5))
+    later-then n (below_from (length vs + 1) s) _ (later-number n 0 (length vs + 1) s h) (λ effects s4 h4.
+    later-then n (group_of effect_numbers vs room (length es) effects es1 s4) _ (later-group n effect_numbers vs room (length es) effects es1 s4 h4) (λ es2 s5 h5. later-price n es name conditions effects es2 s5 h5))
 
 later-conditions : (n : ℕ) (vs : List Variable) (room : ℕ) (es : List Entry) (name : Span) (s : Place) → n ≤ s.line
-    → Later n (and_then (below_from (length vs + 1) s) (λ conditions s2. and_then (group_of Fact vs room (length es) conditions es s2) (λ es1 s3. effects_part vs room es name conditions es1 s3)))
+    → Later n (and_then (below_from (length vs + 1) s) (λ conditions s2. and_then (group_of fact_numbers vs room (length es) conditions es s2) (λ es1 s3. effects_part vs room es name conditions es1 s3)))
 later-conditions n vs room es name s h =
-    later-then n (below_from (length vs + 1) s) _ (later-below n (length vs + 1) s h) (λ conditions s2 h2.
-    later-then n (group_of Fact vs room (length es) conditions es s2) _ (later-group n Fact vs room (length es) conditions es s2 h2) (λ es1 s3 h3. later-effects n vs room es name conditions es1 s3 h3))
+    later-then n (below_from (length vs + 1) s) _ (later-number n 0 (length vs + 1) s h) (λ conditions s2 h2.
+    later-then n (group_of fact_numbers vs room (length es) conditions es s2) _ (later-group n fact_numbers vs room (length es) conditions es s2 h2) (λ es1 s3 h3. later-effects n vs room es name conditions es1 s3 h3))
 
 alike-effects : (vs : List Variable) (room wider : ℕ) → room ≤ wider → (es : List Entry) (name : Span) (conditions : ℕ) (es1 : List Entry) (s : Place) → Alike (effects_part vs room es name conditions es1 s) (effects_part vs wider es name conditions es1 s)
 alike-effects vs room wider le es name conditions es1 s =
     alike_then (below_from (length vs + 1) s) (below_from (length vs + 1) s) _ _ (inl refl)
-    (λ effects s4. alike_then (group_of Effect vs room (length es) effects es1 s4) (group_of Effect vs wider (length es) effects es1 s4) _ _ (alike-group Effect vs room wider (length es) effects le es1 s4) (λ es2 s5. inl refl) (λ n es2 s5 h. later-price n es name conditions effects es2 s5 h))
-    (λ n effects s4 h. later-then n (group_of Effect vs wider (length es) effects es1 s4) _ (later-group n Effect vs wider (length es) effects es1 s4 h) (λ es2 s5 h5. later-price n es name conditions effects es2 s5 h5))
+    (λ effects s4. alike_then (group_of effect_numbers vs room (length es) effects es1 s4) (group_of effect_numbers vs wider (length es) effects es1 s4) _ _ (alike-group effect_numbers vs room wider (length es) effects le es1 s4) (λ es2 s5. inl refl) (λ n es2 s5 h. later-price n es name conditions effects es2 s5 h))
+    (λ n effects s4 h. later-then n (group_of effect_numbers vs wider (length es) effects es1 s4) _ (later-group n effect_numbers vs wider (length es) effects es1 s4 h) (λ es2 s5 h5. later-price n es name conditions effects es2 s5 h5))
 
 alike-operator : (vs : List Variable) (room wider : ℕ) → room ≤ wider → (es : List Entry) (s : Place) → Alike (operator_of vs room es s) (operator_of vs wider es s)
 alike-operator vs room wider le es s =
     alike_then (name_of s) (name_of s) _ _ (inl refl)
     (λ name s1. alike_then (below_from (length vs + 1) s1) (below_from (length vs + 1) s1) _ _ (inl refl)
-    (λ conditions s2. alike_then (group_of Fact vs room (length es) conditions es s2) (group_of Fact vs wider (length es) conditions es s2) _ _ (alike-group Fact vs room wider (length es) conditions le es s2)
+    (λ conditions s2. alike_then (group_of fact_numbers vs room (length es) conditions es s2) (group_of fact_numbers vs wider (length es) conditions es s2) _ _ (alike-group fact_numbers vs room wider (length es) conditions le es s2)
     (λ es1 s3. alike-effects vs room wider le es name conditions es1 s3)
     (λ n es1 s3 h. later-effects n vs wider es name conditions es1 s3 h))
-    (λ n conditions s2 h. later-then n (group_of Fact vs wider (length es) conditions es s2) _ (later-group n Fact vs wider (length es) conditions es s2 h) (λ es1 s3 h3. later-effects n vs wider es name conditions es1 s3 h3)))
+    (λ n conditions s2 h. later-then n (group_of fact_numbers vs wider (length es) conditions es s2) _ (later-group n fact_numbers vs wider (length es) conditions es s2 h) (λ es1 s3 h3. later-effects n vs wider es name conditions es1 s3 h3)))
     (λ n name s1 h. later-conditions n vs wider es name s1 h)
 
 abbrev pushed_on : List Operator × List Entry → Operator × List Entry → Place → Step (List Operator × List Entry)
@@ -317,15 +310,15 @@ alike-goal : (vs : List Variable) (room wider : ℕ) → room ≤ wider → (s :
 alike-goal vs room wider le s =
     alike_then (word_of (codes "begin_goal") s) (word_of (codes "begin_goal") s) _ _ (inl refl)
     (λ _ s1. alike_then (below_from (length vs + 1) s1) (below_from (length vs + 1) s1) _ _ (inl refl)
-    (λ count s2. alike_then (group_of Fact vs room 0 count [] s2) (group_of Fact vs wider 0 count [] s2) _ _ (alike-group Fact vs room wider 0 count le [] s2) (λ es s3. inl refl) (λ n es s3 h. closed n es s3 h))
+    (λ count s2. alike_then (group_of fact_numbers vs room 0 count [] s2) (group_of fact_numbers vs wider 0 count [] s2) _ _ (alike-group fact_numbers vs room wider 0 count le [] s2) (λ es s3. inl refl) (λ n es s3 h. closed n es s3 h))
     (λ n count s2 h. counted n count s2 h))
-    (λ n _ s1 h. later-then n (below_from (length vs + 1) s1) _ (later-below n (length vs + 1) s1 h) (λ count s2 h2. counted n count s2 h2))
+    (λ n _ s1 h. later-then n (below_from (length vs + 1) s1) _ (later-number n 0 (length vs + 1) s1 h) (λ count s2 h2. counted n count s2 h2))
   where
     closed : (n : ℕ) (es : List Entry) (s3 : Place) → n ≤ s3.line → Later n (and_then (word_of (codes "end_goal") s3) (λ _ s4. read es s4))
     closed n es s3 h = later-then n (word_of (codes "end_goal") s3) _ (later-word n (codes "end_goal") s3 h) (λ _ s4 h4. h4)
 
-    counted : (n count : ℕ) (s2 : Place) → n ≤ s2.line → Later n (and_then (group_of Fact vs wider 0 count [] s2) (λ es s3. and_then (word_of (codes "end_goal") s3) (λ _ s4. read es s4)))
-    counted n count s2 h = later-then n (group_of Fact vs wider 0 count [] s2) _ (later-group n Fact vs wider 0 count [] s2 h) (λ es s3 h3. closed n es s3 h3)
+    counted : (n count : ℕ) (s2 : Place) → n ≤ s2.line → Later n (and_then (group_of fact_numbers vs wider 0 count [] s2) (λ es s3. and_then (word_of (codes "end_goal") s3) (λ _ s4. read es s4)))
+    counted n count s2 h = later-then n (group_of fact_numbers vs wider 0 count [] s2) _ (later-group n fact_numbers vs wider 0 count [] s2 h) (λ es s3 h3. closed n es s3 h3)
 
 alike-body : (vs : List Variable) (rooms more room wider : ℕ) → rooms ≤ more → room ≤ wider → (s : Place) → Alike (body_of vs rooms room s) (body_of vs more wider s)
 alike-body vs rooms more room wider lo le s =
@@ -347,7 +340,7 @@ alike-whole room wide lv lo le s =
     (λ vs s3. alike-body vs room.operators wide.operators room.entries wide.entries lo le s3)
     (λ n vs s3 h. later-body n vs wide.operators wide.entries s3 h))
     (λ n count s2 h. listed n count s2 h))
-    (λ n _ s1 h. later-then n (number_from 1 32 s1) _ (later-number n 1 32 s1 h) (λ count s2 h2. listed n count s2 h2))
+    (λ n _ s1 h. later-then n (number_from 1 32 s1) _ (later-number n 1 33 s1 h) (λ count s2 h2. listed n count s2 h2))
   where
     listed : (n count : ℕ) (s2 : Place) → n ≤ s2.line → Later n (and_then (turns count (variable_more wide.variables) [] s2) (λ vs s3. body_of vs wide.operators wide.entries s3))
     listed n count s2 h = later-then n (turns count (variable_more wide.variables) [] s2) _ (later-turns n count (variable_more wide.variables) (λ b z l. later-variables n wide.variables b z l) [] s2 h) (λ vs s3 h3. later-body n vs wide.operators wide.entries s3 h3)

@@ -12,7 +12,7 @@ use Rattle.lines.specs.Reading.{Place, read, tested, word_of, number_from, below
 use Rattle.sections.specs.Variables.{variable_of, variable_more, with_initial, initials_of}
 use Rattle.reader.specs.Named.{NamedVariable, ValidVariable, domains_of}
 use Rattle.reader.specs.Rendering.{spelled, variable_lines}
-use Rattle.reader.proofs.Leaves.{after, tested-parts, past, span, Stands, stands-past, word-from, word-reads, number-from, number-reads, below-from, below-reads, name-from, name-reads, span-bytes, span_fits, spelled-append, pass-from, pass-reads}
+use Rattle.reader.proofs.Leaves.{after, tested-parts, past, span, Stands, stands-past, word-from, word-reads, number-from, number-reads, name-from, name-reads, span-bytes, span_fits, spelled-append, pass-from, pass-reads}
 use Rattle.reader.proofs.Entries.{domains}
 
 -- the bytes of a variable's lines before r
@@ -50,7 +50,7 @@ more-from room vs s ws s1 e h =
     let t2 = tested-parts a1 (ltb (length vs) room) cause.Room u2 a2 e2 in
     let l1 = word-from (codes "begin_variable") s u1 a1 e1 in
     let l4 = word-from (codes "-1") a3 u4 a4 e4 in
-    let l5 = number-from 1 255 a4 domain a5 e5 in
+    let l5 = number-from 1 256 a4 domain a5 e5 in
     let l7 = word-from (codes "end_variable") a6 u7 a7 e7 in
     let v : NamedVariable = record { name = l; values = ls; initial = 0 } in
     let made-is : ◌≡◌ {A = Variable} (record { name = name; values = record { from = a5.at; to = a6.at }; domain = domain; initial = 0 }) rec = cc in
@@ -110,7 +110,7 @@ more-reads text room vs s v r free valid e st =
     let f1 : ltb (length vs) room ≡ true = lt-ltb (length vs) room free in
     let w2 = name-reads v.name s1 r2 refl valid.name in
     let w3 = word-reads (codes "-1") s2 r3 refl refl in
-    let w4 = number-reads 1 255 n s3 r4 refl valid.some valid.many (omega arith) in
+    let w4 = number-reads 1 256 n s3 r4 refl valid.some (omega (arith, valid.many)) (omega arith) in
     let w5 = pass-reads text v.values s4 r5 refl valid.names t4 in
     let w6 = word-reads (codes "end_variable") w5.to r w5.rest refl in
     let made : Variable = record { name = span s1 v.name; values = span s4 (spelled v.values); domain = n; initial = 0 } in
@@ -228,7 +228,7 @@ initials-from [] done (v ∷ vs) s ws s1 e sizes valid h = let bad : ◌≡◌ {
 initials-from (x ∷ xs) done [] s ws s1 e sizes valid h = let bad : ◌≡◌ {A = ℕ} 0 1 = cc in let no_way : ⊥ = omega arith in absurd no_way
 initials-from (x ∷ xs) done (v ∷ vs) s ws s1 e sizes valid h =
     after (below_from v.domain s) _ ws s1 e (λ i a1 e1 f1.
-    let l = below-from v.domain s i a1 e1 in
+    let l = number-from 0 v.domain s i a1 e1 in
     let d : v.domain ≡ length x.values = cc in
     let rest : domains vs ≡ domains_of xs = cc in
     let y : NamedVariable = record { name = x.name; values = x.values; initial = i } in
@@ -268,7 +268,7 @@ initials-reads text (x ∷ xs) done (v ∷ vs) s r are valid e st =
     let i = x.initial in
     let e1 = e ∙ append_assoc (decimal i ++ 10 ∷ []) (spelled (map (λ v. decimal v.initial) xs)) r in
     let a = are.0 in
-    let w = below-reads v.domain i s r1 e1 (omega (arith, a.domain, valid.0.initial)) (omega (arith, a.domain, valid.0.many)) in
+    let w = number-reads 0 v.domain i s r1 e1 (omega arith) (omega (arith, a.domain, valid.0.initial)) (omega (arith, a.domain, valid.0.many)) in
     let q = initials-reads text xs (done ++ with_initial v i ∷ []) vs (past s (decimal i) r1) r are.1 valid.1 refl (stands-past text s (decimal i) r1 st e1) in
     record {
       records = with_initial v i ∷ q.records;

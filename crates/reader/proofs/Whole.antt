@@ -9,16 +9,15 @@ use Rattle.tables.specs.declared.records.Operator.{Operator}
 use Rattle.tables.specs.declared.records.Entry.{Entry}
 use Rattle.tables.specs.Rules.{Distinct}
 use Rattle.lines.specs.Reading.{Place, refused, read, fault_next, word_of, number_from, below_from, turns, top}
-use Rattle.sections.specs.declared.entries.Shape.TheVariants.{Fact}
 use Rattle.sections.specs.Variables.{variables_of, initials_of}
-use Rattle.sections.specs.Entries.{group_of}
+use Rattle.sections.specs.Entries.{fact_numbers, group_of}
 use Rattle.sections.specs.Operators.{operators_of, operator_more, inside}
 use Rattle.format.specs.Whole.{Held, Room, heading_of, state_of, goal_of, ended, whole_of}
 use Rattle.reader.specs.Named.{NamedVariable, NamedOperator, NamedTask, ValidVariable, ValidOperator, FactFits, Valid, domains_of, entries_of, all_entries}
 use Rattle.reader.specs.Rendering.{spelled, fact_line, variable_lines, operator_lines, render}
-use Rattle.reader.proofs.Leaves.{after, word-from, number-from, below-from, spelled-append}
+use Rattle.reader.proofs.Leaves.{after, word-from, number-from, spelled-append}
 use Rattle.reader.proofs.Distinct.{distinct_none}
-use Rattle.reader.proofs.Entries.{domains, length-domains, group-from}
+use Rattle.reader.proofs.Entries.{domains, length-domains, fact, group-from}
 use Rattle.reader.proofs.Variables as variables
 use Rattle.reader.proofs.Operators as operators
 
@@ -99,11 +98,11 @@ goal-from : (vs : List Variable) (room : ℕ) (s : Place) (gs : List Entry) (s1 
 goal-from vs room s gs s1 e =
     after (word_of (codes "begin_goal") s) _ gs s1 e (λ u1 a1 e1 f1.
     after (below_from (length vs + 1) a1) _ gs s1 f1 (λ n a2 e2 f2.
-    after (group_of Fact vs room 0 n [] a2) _ gs s1 f2 (λ es a3 e3 f3.
+    after (group_of fact_numbers vs room 0 n [] a2) _ gs s1 f2 (λ es a3 e3 f3.
     after (word_of (codes "end_goal") a3) _ gs s1 f3 (λ u4 a4 e4 f4.
-    group-from Fact vs room 0 n [] a2 es a3 e3 (omega arith) (omega arith) distinct_none (λ xs g.
+    group-from fact vs room 0 n [] a2 es a3 e3 (omega arith) (omega arith) distinct_none (λ xs g.
     let l1 = word-from (codes "begin_goal") s u1 a1 e1 in
-    let l2 = below-from (length vs + 1) a1 n a2 e2 in
+    let l2 = number-from 0 (length vs + 1) a1 n a2 e2 in
     let l4 = word-from (codes "end_goal") a3 u4 a4 e4 in
     let es-is : es ≡ gs = cc in
     let s-is : a4 ≡ s1 = cc in
@@ -191,11 +190,11 @@ whole_from room text held s1 small e h =
     state-from xs vs a3 ws a4 e4 sizes many.valid (λ ys state.
     let goal = goal-from ws room.entries a4 gs a5 e5 in
     operators.many-from m ws room.operators room.entries [] gs a6 b1 a8 e8 (omega arith) goal.stored (λ os ops.
-    let l2 = number-from 1 32 a1 n a2 e2 in
-    let l6 = below-from 257 a5 m a6 e6 in
+    let l2 = number-from 1 33 a1 n a2 e2 in
+    let l6 = number-from 0 257 a5 m a6 e6 in
     let l9 = word-from (codes "0") a7 u9 a9 e9 in
     let out : inside None a8 ≡ a7 = cc in
     let rest : a8.rest ≡ a7.rest = ap (λ z. z.rest) out in
     let z = ended-parts _ held a9 s1 f9 in
     h (record { variables = ys; goal = gs; operators = os })
-    (whole-made room text n m vs ws xs ys gs b1 os a1 a2 a3 a4 a5 a6 a8 a9 small (heading-from (top text) u1 a1 e1) l2.line.bytes l2.low l2.high many state goal l6.line.bytes l6.high ops (rest ∙ l9.bytes) z.1)))))))))))))
+    (whole-made room text n m vs ws xs ys gs b1 os a1 a2 a3 a4 a5 a6 a8 a9 small (heading-from (top text) u1 a1 e1) l2.line.bytes l2.low (omega (arith, l2.high)) many state goal l6.line.bytes l6.high ops (rest ∙ l9.bytes) z.1)))))))))))))

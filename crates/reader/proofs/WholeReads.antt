@@ -8,13 +8,12 @@ use Rattle.tables.specs.declared.records.Operator.{Operator}
 use Rattle.tables.specs.declared.records.Entry.{Entry}
 use Rattle.tables.specs.Rules.{Distinct}
 use Rattle.lines.specs.Reading.{Place, Step, read, word_of, below_from, top}
-use Rattle.sections.specs.declared.entries.Shape.TheVariants.{Fact}
 use Rattle.sections.specs.Operators.{operators_of, inside}
 use Rattle.format.specs.Whole.{Held, Room, heading_of, state_of, goal_of, whole_of}
 use Rattle.reader.specs.Named.{NamedVariable, NamedOperator, NamedTask, ValidVariable, ValidOperator, FactFits, Valid, domains_of, entries_of, all_entries}
 use Rattle.reader.specs.Rendering.{spelled, fact_line, variable_lines, operator_lines, render}
-use Rattle.reader.proofs.Leaves.{past, Stands, stands-past, word-reads, number-reads, below-reads}
-use Rattle.reader.proofs.Entries.{domains, length-domains, group_reads}
+use Rattle.reader.proofs.Leaves.{past, Stands, stands-past, word-reads, number-reads}
+use Rattle.reader.proofs.Entries.{domains, length-domains, fact, group_reads}
 use Rattle.reader.proofs.Variables as variables
 use Rattle.reader.proofs.Operators as operators
 use Rattle.reader.proofs.Operators.{with_it}
@@ -90,10 +89,10 @@ goal-reads text vs room s gs r few small fit distinct count free st e =
     let s1 = past s (codes "begin_goal") r1 in
     let s2 = past s1 (decimal (length gs)) r2 in
     let w1 = word-reads (codes "begin_goal") s r1 e refl in
-    let w2 = below-reads (length vs + 1) (length gs) s1 r2 refl (omega arith) (omega arith) in
+    let w2 = number-reads 0 (length vs + 1) (length gs) s1 r2 refl (omega arith) (omega arith) (omega arith) in
     let t1 = stands-past text s (codes "begin_goal") r1 st e in
     let t2 = stands-past text s1 (decimal (length gs)) r2 t1 refl in
-    with_it (group_reads text Fact vs room 0 gs [] s2 r3 few small fit (omega arith) distinct (omega arith) refl t2) (λ g.
+    with_it (group_reads text fact vs room 0 gs [] s2 r3 few small fit (omega arith) distinct (omega arith) refl t2) (λ g.
     let w4 = word-reads (codes "end_goal") g.to r g.rest refl in
     record {
       to = past g.to (codes "end_goal") r;
@@ -121,7 +120,7 @@ operators-reads text vs rooms room gs s os few small free listed stored valid st
     let r2 = before (codes "0") [] in
     let r1 = spelled (flat_map operator_lines os) ++ r2 in
     let s1 = past s (decimal (length os)) r1 in
-    let w1 = below-reads 257 (length os) s r1 e (omega arith) (omega arith) in
+    let w1 = number-reads 0 257 (length os) s r1 e (omega arith) (omega arith) (omega arith) in
     let t1 = stands-past text s (decimal (length os)) r1 st e in
     with_it (operators.many-reads text vs rooms room os [] gs s1 r2 few small (omega arith) stored valid refl t1) (λ q.
     let s3 = inside None q.to in
@@ -182,7 +181,7 @@ whole-reads room t valid enough-v enough-o enough-e =
     let len = length-append t.goal (flat_map entries_of t.operators) in
     with_it (heading-reads text (top text) r0 st (text-bytes t)) (λ a.
     let s1 = past a.to (decimal (length t.variables)) r1 in
-    let w1 = number-reads 1 32 (length t.variables) a.to r1 a.rest valid.some valid.few (omega arith) in
+    let w1 = number-reads 1 33 (length t.variables) a.to r1 a.rest valid.some (omega (arith, valid.few)) (omega arith) in
     let t1 = stands-past text a.to (decimal (length t.variables)) r1 a.stands a.rest in
     with_it (variables.many-reads text t.variables room.variables [] s1 r2 (omega arith) (All-weaker ValidVariable variables.Declared declared t.variables valid.variables) refl t1) (λ b.
     with_it (state-reads text b.records b.to t.variables r3 b.are valid.variables b.stands b.rest) (λ c.

@@ -33,7 +33,14 @@ abbrev pub SameOrRoom : Result Held Fault → Result Held Fault → Type 0
 SameOrRoom g h = (g ≡ h) ⊎ ((f : Fault) × (g ≡ Err f) × (f.cause ≡ cause.Room) × NotBefore f.line h)
 
 -- A text of at most 65,536 bytes is accepted exactly if it is the text of a valid task for which the records suffice, and
--- the task that then stands is that task. Fewer records change nothing but that ROOM is said where one is lacking. A refusal is the text's first fault, and leaves the task that stood before.
+-- the answer is that task. Fewer records change nothing but that ROOM is said where one is lacking. A refusal is the text's first fault.
+pub record Read (text : List ℕ) (m n k : ℕ) (r : Result Task Fault) : Type 0 where
+  pub accepted : (u : Task) → r ≡ Ok u → (t : NamedTask) × Valid t × Enough t m n k × (length text ≤ 65536) × (text ≡ render t) × Shows u t
+  pub accepts : (t : NamedTask) → Valid t → Enough t m n k → length text ≤ 65536 → text ≡ render t → (u : Task) × (r ≡ Ok u) × Shows u t
+  pub wider : (m1 n1 k1 : ℕ) → m ≤ m1 → n ≤ n1 → k ≤ k1 → SameOrRoom (task_of text (room_of m n k)) (task_of text (room_of m1 n1 k1))
+  pub refused : (f : Fault) → r ≡ Err f → task_of text (room_of m n k) ≡ Err f
+
+-- The same, where the task that then stands is that task. Fewer records change nothing but that ROOM is said where one is lacking. A refusal leaves the task that stood before.
 pub record Loaded (text : List ℕ) (m n k : ℕ) (r : Result (Unit {0}) Fault) (earlier after : Task) : Type 0 where
   pub accepted : r ≡ Ok tt → (t : NamedTask) × Valid t × Enough t m n k × (length text ≤ 65536) × (text ≡ render t) × Shows after t
   pub accepts : (t : NamedTask) → Valid t → Enough t m n k → length text ≤ 65536 → text ≡ render t → (r ≡ Ok tt) × Shows after t

@@ -1,5 +1,6 @@
 -- The entries of a task text: goal facts, conditions and effects, each in a line of its own.
-use Rattle.std.specs.Prelude.{ℕ, Bool, false, cond, not, ◌||◌, List, [], ◌∷◌, ◌++◌, length, drop, Some, None, Option, ◌==◌, nat_lt, slice_index_or}
+use Rattle.std.specs.Prelude.{ℕ, Bool, cond, not, List, [], ◌∷◌, ◌++◌, length, drop, Some, None, Option, ◌==◌, nat_lt, slice_index_or}
+use Rattle.std.specs.List.{list_any}
 use Rattle.tables.specs.declared.cause.Cause.TheVariants as cause
 use Rattle.tables.specs.declared.records.Variable.{Variable}
 use Rattle.tables.specs.declared.records.Entry.{Entry}
@@ -8,13 +9,22 @@ use Rattle.lines.specs.declared.number.Number.{Number}
 use Rattle.lines.specs.declared.number.Number.TheVariants.{MinusOne, Value, TooLong}
 use Rattle.lines.specs.Numbers.{below_of, and_of, two_of, four_of}
 use Rattle.lines.specs.Reading.{Place, Step, read, and_then, tested, given, line_of, turns}
-use Rattle.sections.specs.declared.entries.Shape.{Shape}
-use Rattle.sections.specs.declared.entries.Shape.TheVariants.{Fact, Effect}
 
--- the four numbers of an effect line; a fact is an effect that keeps its value
-abbrev pub numbers_of : Shape → List ℕ → Option (Number × Number × Number × Number)
-numbers_of Fact bs = and_of (two_of bs) (λ p. Some (Value 0, p.0, p.1, p.1))
-numbers_of Effect bs = four_of bs
+-- the four numbers of a list
+abbrev pub four : List Number → Number × Number × Number × Number
+four ns = (slice_index_or ns 0 TooLong, slice_index_or ns 1 TooLong, slice_index_or ns 2 TooLong, slice_index_or ns 3 TooLong)
+
+abbrev pub four_among : Option (List Number) → Option (Number × Number × Number × Number)
+four_among None = None
+four_among (Some ns) = Some (four ns)
+
+-- the four numbers of a fact's line: it is an effect that keeps its value
+abbrev pub fact_numbers : List ℕ → Option (Number × Number × Number × Number)
+fact_numbers bs = and_of (two_of bs) (λ p. Some (Value 0, p.0, p.1, p.1))
+
+-- the four numbers of an effect's line
+abbrev pub effect_numbers : List ℕ → Option (Number × Number × Number × Number)
+effect_numbers bs = four_of bs
 
 -- a required value, or none for -1
 abbrev pub required_of : ℕ → Number → Option (Option ℕ)
@@ -33,22 +43,21 @@ entry_in vs ns =
 
 -- whether an entry names the variable v
 abbrev pub names : ℕ → List Entry → Bool
-names v [] = false
-names v (e ∷ es) = e.variable == v || names v es
+names v es = list_any (λ e. e.variable == v) es
 
 -- the due line holds an entry: NUMBER, RANGE, TWICE among the group so far, ROOM where no record is free
-abbrev pub entry_of : Shape → List Variable → List Entry → Bool → Place → Step Entry
-entry_of shape vs group free s =
+abbrev pub entry_of : (List ℕ → Option (Number × Number × Number × Number)) → List Variable → List Entry → Bool → Place → Step Entry
+entry_of numbers vs group free s =
     and_then (line_of s) (λ bs s1.
-    and_then (given s1 (numbers_of shape bs) cause.Number) (λ ns s2.
+    and_then (given s1 (numbers bs) cause.Number) (λ ns s2.
     and_then (given s2 (entry_in vs ns) cause.Range) (λ e s3.
     and_then (tested s3 (not (names e.variable group)) cause.Twice) (λ _ s4.
     and_then (tested s4 free cause.Room) (λ _ s5. read e s5)))))
 
 -- one entry more after those of the group, which begin at first
-unfoldable pub entry_more : Shape → List Variable → ℕ → ℕ → List Entry → Place → Step (List Entry)
-entry_more shape vs room first es s =
-    and_then (entry_of shape vs (drop first es) (nat_lt (length es) room) s) (λ e s1. read (es ++ e ∷ []) s1)
+unfoldable pub entry_more : (List ℕ → Option (Number × Number × Number × Number)) → List Variable → ℕ → ℕ → List Entry → Place → Step (List Entry)
+entry_more numbers vs room first es s =
+    and_then (entry_of numbers vs (drop first es) (nat_lt (length es) room) s) (λ e s1. read (es ++ e ∷ []) s1)
 
-abbrev pub group_of : Shape → List Variable → ℕ → ℕ → ℕ → List Entry → Place → Step (List Entry)
-group_of shape vs room first count es s = turns count (entry_more shape vs room first) es s
+abbrev pub group_of : (List ℕ → Option (Number × Number × Number × Number)) → List Variable → ℕ → ℕ → ℕ → List Entry → Place → Step (List Entry)
+group_of numbers vs room first count es s = turns count (entry_more numbers vs room first) es s

@@ -1,4 +1,5 @@
 pub mod Variables
 pub mod Entries
 pub mod Operators
+pub mod Held
 pub mod Views

@@ -5,17 +5,16 @@ use Rattle.tables.specs.declared.records.Variable.{Variable}
 use Rattle.tables.specs.declared.records.Entry.{Entry}
 use Rattle.tables.specs.declared.records.Operator.{Operator}
 use Rattle.lines.specs.Reading.{Place, Step, read, and_then, tested, word_of, name_of, below_from, turns}
-use Rattle.sections.specs.declared.entries.Shape.TheVariants.{Fact, Effect}
-use Rattle.sections.specs.Entries.{group_of}
+use Rattle.sections.specs.Entries.{fact_numbers, effect_numbers, group_of}
 
 -- the lines of an operator after the first; its entries come after es, no variable twice among them
 abbrev pub operator_of : List Variable → ℕ → List Entry → Place → Step (Operator × List Entry)
 operator_of vs room es s =
     and_then (name_of s) (λ name s1.
     and_then (below_from (length vs + 1) s1) (λ conditions s2.
-    and_then (group_of Fact vs room (length es) conditions es s2) (λ es1 s3.
+    and_then (group_of fact_numbers vs room (length es) conditions es s2) (λ es1 s3.
     and_then (below_from (length vs + 1) s3) (λ effects s4.
-    and_then (group_of Effect vs room (length es) effects es1 s4) (λ es2 s5.
+    and_then (group_of effect_numbers vs room (length es) effects es1 s4) (λ es2 s5.
     and_then (below_from 65536 s5) (λ price s6.
     and_then (word_of (codes "end_operator") s6) (λ _ s7.
     read (record { name = name; price = price; first = length es; conditions = conditions; effects = effects }, es2) s7)))))))

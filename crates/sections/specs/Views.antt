@@ -1,25 +1,24 @@
--- What the set of seen variables holds, and what reading operators answers, in the words of the format.
-use Rattle.std.specs.Prelude.{◌≡◌, ℕ, ◌<◌, false, List, take, Ok, Err, Result, slice_index_or}
+-- What reading entries leaves as it was, and what reading operators answers, in the words of the format.
+use Rattle.std.specs.Prelude.{◌≡◌, List, length, take, Ok, Err, Result}
 use Rattle.tables.specs.declared.fault.Fault.{Fault}
 use Rattle.tables.specs.declared.records.Entry.{Entry}
 use Rattle.tables.specs.declared.records.Operator.{Operator}
-use Rattle.tables.specs.Records.{end_at}
 use Rattle.lines.specs.declared.cursor.Cursor.{Cursor}
 use Rattle.lines.specs.Reading.{Step, refused, read}
 use Rattle.lines.specs.Views.{place_of}
-use Rattle.sections.specs.declared.seen.Seen.{Seen}
-use Rattle.sections.specs.Entries.{names}
+use Rattle.sections.specs.declared.entries.Entries.{Entries}
 
--- the seen variables are those that the group names
-abbrev pub Marked : Seen → List Entry → Type 0
-Marked seen group = (v : ℕ) → v < 32 → slice_index_or seen.marks v false ≡ names v group
+-- the entries in use
+abbrev pub entries_in : Entries → List Entry
+entries_in es = take es.used es.records.now
 
--- an answer that is an operator, with the entries up to its last
+-- q is p with the same variables, over the same lent records
+pub record SameLender (p q : Entries) : Type 0 where
+  pub variables : q.variables ≡ p.variables
+  pub capacity : length q.records.now ≡ length p.records.now
+  pub lender : q.records.ghost_name ≡ p.records.ghost_name
+
+-- an answer that is an operator, with the entries then in use
 abbrev pub answered_operator : Result Operator Fault → List Entry → Cursor → Step (Operator × List Entry)
-answered_operator (Ok o) es c = read (o, take (end_at o) es) (place_of c)
+answered_operator (Ok o) es c = read (o, es) (place_of c)
 answered_operator (Err f) es c = refused f
-
--- an answer that is how many entries are used, with the operators
-abbrev pub answered_operators : Result ℕ Fault → List Operator → List Entry → Cursor → Step (List Operator × List Entry)
-answered_operators (Ok n) os es c = read (os, take n es) (place_of c)
-answered_operators (Err f) os es c = refused f

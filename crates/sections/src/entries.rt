@@ -1,74 +1,67 @@
-ghost use Rattle.std.specs.Prelude.{◌≡◌, ℕ, ◌+◌, ◌<◌, ◌≤◌, true, List, [], ◌∷◌, ◌++◌, length, take, drop, IfSome, IfOk, OnOk};
-ghost use Rattle.lines.specs.Views.{place_of, answered, answered_by};
-ghost use Rattle.sections.specs.Entries.{numbers_of, required_of, entry_in, entry_of, group_of};
-ghost use Rattle.sections.specs.Views.{Marked};
+ghost use Rattle.std.specs.Prelude.{◌≡◌, ℕ, ◌+◌, ◌<◌, ◌≤◌, true, List, [], ◌∷◌, ◌++◌, Option, length, drop, IfSome, IfOk, OnOk, nat_lt};
+ghost use Rattle.lines.specs.declared.number.Number.{Number};
+ghost use Rattle.sections.specs.Entries.{fact_numbers, effect_numbers, required_of, entry_in, names, four, four_among};
 
-use crate::seen::Seen;
 use lines::cursor::Cursor;
-use lines::number::{Number, four_numbers, two_numbers};
+use lines::number::{Number, numbers};
 use tables::cause::Cause;
 use tables::fault::Fault;
 use tables::records::{Entry, Variable};
 
-// What a line of an entry holds: a fact, or an effect.
-#[derive(Clone, Copy)]
-pub enum Shape {
-    Fact,
-    Effect,
+// What a line of an entry holds.
+pub trait Shape {
+    ghost numbers_of: { List ℕ → Option (Number × Number × Number × Number) };
+
+    // The four numbers of a line: a zero, the variable, its value before and its value after.
+    fn numbers(line: &[u8]) -> Option<[Number; 4]>
+        ensures { numbers_of line.now ≡ four_among result };
 }
 
-// The four numbers of a line; a fact is an effect that keeps its value.
-fn numbers(shape: Shape, line: &[u8]) -> Option<(Number, Number, Number, Number)>
-    ensures { numbers_of shape line.now ≡ result }
-{
-    match shape {
-        Shape::Fact => {
-            let Some((variable, value)) = two_numbers(line) else {
-                return None;
-            };
-            Some((Number::Value(0), variable, value, value))
-        }
-        Shape::Effect => four_numbers(line),
+// A fact is an effect that keeps its value.
+pub struct Fact;
+
+pub struct Effect;
+
+impl Shape for Fact {
+    ghost numbers_of = { fact_numbers };
+
+    fn numbers(line: &[u8]) -> Option<[Number; 4]> {
+        let [variable, value] = numbers::<2>(line)?;
+        Some([Number::Value(0), variable, value, value])
     }
 }
 
-// A required value, or none.
-fn required(number: Number, domain: u8) -> Option<Option<u8>>
+impl Shape for Effect {
+    ghost numbers_of = { effect_numbers };
+
+    fn numbers(line: &[u8]) -> Option<[Number; 4]> {
+        numbers(line)
+    }
+}
+
+// A required value, or none for -1.
+fn required(number: Number, domain: usize) -> Option<Option<u8>>
+    requires { domain < 256 }
     ensures { required_of domain number ≡ result }
 {
-    match number {
-        Number::MinusOne => Some(None),
-        Number::Value(n) => {
-            if n < u32::from(domain) {
-                Some(Some(n as u8))
-            } else {
-                None
-            }
-        }
-        Number::TooLong => None,
+    if let Number::MinusOne = number {
+        return Some(None);
     }
+    let value = number.within(0..domain)?;
+    Some(Some(value as u8))
 }
 
 // The entry of four numbers that lie in their ranges.
-fn ranged(numbers: (Number, Number, Number, Number), variables: &[Variable]) -> Option<Entry>
+fn ranged(numbers: [Number; 4], variables: &[Variable]) -> Option<Entry>
     requires { length variables.now ≤ 32 }
-    ensures reads { entry_in variables.now numbers ≡ result }
-    ensures range { IfSome result (λ e. e.variable < 32) }
+    ensures { entry_in variables.now (four numbers) ≡ result }
 {
-    let (zero, variable, before, after) = numbers;
-    let Some(_) = zero.below(1) else {
-        return None;
-    };
-    let Some(index) = variable.below(variables.len()) else {
-        return None;
-    };
-    let domain = variables[index].domain;
-    let Some(required) = required(before, domain) else {
-        return None;
-    };
-    let Some(value) = after.below(domain as usize) else {
-        return None;
-    };
+    let [zero, variable, before, after] = numbers;
+    zero.within(0..1)?;
+    let index = variable.within(0..variables.len())?;
+    let domain = usize::from(variables[index].domain);
+    let required = required(before, domain)?;
+    let value = after.within(0..domain)?;
     Some(Entry {
         variable: index as u8,
         required,
@@ -76,56 +69,88 @@ fn ranged(numbers: (Number, Number, Number, Number), variables: &[Variable]) -> 
     })
 }
 
-// The entry in the due line, its variable new among those seen, where a record is free: the tests in their order.
-fn entry(
-    cursor: &mut Cursor,
-    shape: Shape,
-    variables: &[Variable],
-    seen: &mut Seen,
-    free: bool,
-) -> Result<Entry, Fault>
-    requires { length variables.now ≤ 32 }
-    ensures reads { (group : List Entry) → Marked seen.old group → entry_of shape variables.now group free (place_of cursor.old) ≡ answered result cursor.new }
-    ensures marks { IfOk result (λ e. (group : List Entry) → Marked seen.old group → Marked seen.new (group ++ e ∷ [])) }
-    ensures room { OnOk result (free ≡ true) }
+// Whether an entry of a group names the variable.
+fn names(variable: u8, group: &[Entry]) -> bool
+    ensures { names variable group.now ≡ result }
 {
-    let line = cursor.line()?;
-    let Some(found) = numbers(shape, line) else {
-        return Err(cursor.fault(Cause::Number));
-    };
-    let Some(entry) = ranged(found, variables) else {
-        return Err(cursor.fault(Cause::Range));
-    };
-    if seen.contains(entry.variable) {
-        return Err(cursor.fault(Cause::Twice));
-    }
-    if !free {
-        return Err(cursor.fault(Cause::Room));
-    }
-    seen.add(entry);
-    Ok(entry)
+    group.iter().any(|entry| entry.variable == variable)
 }
 
-// Reads `count` entries after the first `used`. The group they belong to begins at some `first`, and its variables are seen.
-pub fn group(
-    cursor: &mut Cursor,
-    shape: Shape,
-    variables: &[Variable],
-    entries: &mut [Entry],
-    used: usize,
-    count: usize,
-    seen: &mut Seen,
-) -> Result<(), Fault>
-    requires { (length variables.now ≤ 32) × ((used ≤ length entries.old) × (count ≤ 32)) }
-    ensures reads { (first : ℕ) → first ≤ used → Marked seen.old (drop first (take used entries.old)) → group_of shape variables.now (length entries.old) first count (take used entries.old) (place_of cursor.old) ≡ answered_by result (take (used + count) entries.new) cursor.new }
-    ensures marks { OnOk result ((first : ℕ) → first ≤ used → Marked seen.old (drop first (take used entries.old)) → Marked seen.new (drop first (take (used + count) entries.new))) }
-    ensures room { OnOk result (used + count ≤ length entries.new) }
-{
-    for i in 0..count {
-        let at = used + i;
-        let free = at < entries.len();
-        let found = entry(cursor, shape, variables, seen, free)?;
-        entries[at] = found;
+// The entries of a text, each read after those in use: the variables that they name, and where their group begins.
+// Their records stand here and not in a Room of their own: of a slice that a struct within a struct borrows, nothing is
+// known once the loan is over (the goal of what reading a whole text returns stays open).
+#[derive(Drop)]
+pub struct Entries<'v, 'e> {
+    pub variables: &'v [Variable],
+    pub records: &'e mut [Entry],
+    pub used: usize,
+    pub first: usize,
+    ghost few: { length variables.now ≤ 32 },
+    ghost begun: { first ≤ used },
+    ghost inside: { used ≤ length records.now },
+}
+
+impl<'v, 'e> Entries<'v, 'e> {
+    ghost use Rattle.lines.specs.Views.{place_of, answered, answered_by};
+    ghost use Rattle.sections.specs.Entries.{entry_of, group_of};
+    ghost use Rattle.sections.specs.Views.{entries_in, SameLender};
+
+    // No entry is read yet.
+    pub fn new(variables: &'v [Variable], records: &'e mut [Entry]) -> Self
+        requires { length variables.now ≤ 32 }
+        ensures empty { (result.used ≡ 0) × (length result.records.now ≡ length records.old) }
+        ensures same { (result.variables ≡ variables.entry) × (result.records.ghost_name ≡ records.entry.ghost_name) }
+    {
+        Entries {
+            variables,
+            records,
+            used: 0,
+            first: 0,
+        }
     }
-    Ok(())
+
+    // A group begins after the entries in use.
+    pub fn start_group(&mut self)
+        ensures same { SameLender self.old self.new }
+        ensures read { (self.new.used ≡ self.old.used) × (self.new.records.now ≡ self.old.records.now) }
+        ensures first { self.new.first ≡ self.old.used }
+    {
+        self.first = self.used;
+    }
+
+    // The entry in the due line, its variable new in its group, where a record is free: the tests in their order.
+    fn entry<S: Shape>(&self, cursor: &mut Cursor) -> Result<Entry, Fault>
+        ensures reads { entry_of S.numbers_of self.now.variables.now (drop self.now.first (entries_in self.now)) (nat_lt (length (entries_in self.now)) (length self.now.records.now)) (place_of cursor.old) ≡ answered result cursor.new }
+        ensures room { OnOk result (self.now.used < length self.now.records.now) }
+    {
+        let line = cursor.line()?;
+        let Some(found) = S::numbers(line) else {
+            return Err(cursor.fault(Cause::Number));
+        };
+        let Some(entry) = ranged(found, self.variables) else {
+            return Err(cursor.fault(Cause::Range));
+        };
+        let group = &self.records[..self.used][self.first..];
+        if names(entry.variable, group) {
+            return Err(cursor.fault(Cause::Twice));
+        }
+        if self.used == self.records.len() {
+            return Err(cursor.fault(Cause::Room));
+        }
+        Ok(entry)
+    }
+
+    // Reads `count` entries of the group.
+    pub fn group<S: Shape>(&mut self, cursor: &mut Cursor, count: usize) -> Result<(), Fault>
+        ensures reads { group_of S.numbers_of self.old.variables.now (length self.old.records.now) self.old.first count (entries_in self.old) (place_of cursor.old) ≡ answered_by result (entries_in self.new) cursor.new }
+        ensures same { SameLender self.old self.new × (self.new.first ≡ self.old.first) }
+        ensures used { OnOk result (self.new.used ≡ self.old.used + count) }
+    {
+        for _ in 0..count {
+            let entry = self.entry::<S>(cursor)?;
+            self.records[self.used] = entry;
+            self.used += 1;
+        }
+        Ok(())
+    }
 }

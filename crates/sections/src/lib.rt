@@ -3,5 +3,5 @@
 
 pub mod entries;
 pub mod operators;
-pub mod seen;
+pub mod room;
 pub mod variables;

@@ -1,85 +1,59 @@
-ghost use Rattle.std.specs.Prelude.{◌≡◌, ℕ, ◌+◌, ◌-◌, ◌<◌, ◌≤◌, length, take, IfOk};
-ghost use Rattle.tables.specs.Records.{end_at};
-ghost use Rattle.lines.specs.Views.{place_of};
+ghost use Rattle.std.specs.Prelude.{◌≡◌, ◌≤◌, length, take, OnOk, IfOk};
+ghost use Rattle.lines.specs.Views.{place_of, answered_by};
 ghost use Rattle.sections.specs.Operators.{operator_of, operators_of};
-ghost use Rattle.sections.specs.Views.{answered_operator, answered_operators};
+ghost use Rattle.sections.specs.Views.{answered_operator, entries_in, SameLender};
 
-use crate::entries::{Shape, group};
-use crate::seen::Seen;
+use crate::entries::{Effect, Entries, Fact};
+use crate::room::Room;
 use lines::cursor::Cursor;
 use tables::cause::Cause;
 use tables::fault::Fault;
-use tables::records::{Entry, Operator, Variable};
+use tables::records::Operator;
 
-// The lines of an operator after the first; its entries come after the first `used`.
-fn operator(
-    cursor: &mut Cursor,
-    variables: &[Variable],
-    entries: &mut [Entry],
-    used: usize,
-) -> Result<Operator, Fault>
-    requires { (length variables.now ≤ 32) × ((used ≤ length entries.old) × (length entries.old ≤ 4096)) }
-    ensures reads { operator_of variables.now (length entries.old) (take used entries.old) (place_of cursor.old) ≡ answered_operator result entries.new cursor.new }
-    ensures room { IfOk result (λ o. (end_at o ≤ length entries.new) × (used ≤ end_at o)) }
+// The lines of an operator after the first; its entries are a group of their own.
+fn operator(cursor: &mut Cursor, entries: &mut Entries) -> Result<Operator, Fault>
+    ensures reads { operator_of entries.old.variables.now (length entries.old.records.now) (entries_in entries.old) (place_of cursor.old) ≡ answered_operator result (entries_in entries.new) cursor.new }
+    ensures same { SameLender entries.old entries.new }
 {
-    let mut seen = Seen::none();
+    entries.start_group();
     let name = cursor.name()?;
-    let conditions = cursor.below(variables.len() + 1)?;
-    group(
-        cursor,
-        Shape::Fact,
-        variables,
-        entries,
-        used,
-        conditions,
-        &mut seen,
-    )?;
-    let effects = cursor.below(variables.len() + 1)?;
-    group(
-        cursor,
-        Shape::Effect,
-        variables,
-        entries,
-        used + conditions,
-        effects,
-        &mut seen,
-    )?;
-    let price = cursor.below(65536)?;
+    let conditions = cursor.number(0..entries.variables.len() + 1)?;
+    entries.group::<Fact>(cursor, conditions)?;
+    let effects = cursor.number(0..entries.variables.len() + 1)?;
+    entries.group::<Effect>(cursor, effects)?;
+    let price = cursor.number(0..65536)?;
     cursor.word(b"end_operator")?;
     Ok(Operator {
         name,
         price: price as u32,
-        first: used,
+        first: entries.first,
         conditions,
         effects,
     })
 }
 
-// Reads `count` operators into the first records; their entries come after the first `used`.
-// Answers how many entries are then used.
+// Reads `count` operators into the first records, and their entries after those in use.
 pub fn operator_list(
     cursor: &mut Cursor,
-    variables: &[Variable],
+    entries: &mut Entries,
     records: &mut [Operator],
-    entries: &mut [Entry],
-    used: usize,
     count: usize,
-) -> Result<usize, Fault>
-    requires { (length variables.now ≤ 32) × ((used ≤ length entries.old) × ((length entries.old ≤ 4096) × (count ≤ 256))) }
-    ensures reads { operators_of variables.now (length records.old) (length entries.old) count (take used entries.old) (place_of cursor.old) ≡ answered_operators result (take count records.new) entries.new cursor.new }
-    ensures room { IfOk result (λ n. (n ≤ length entries.new) × (count ≤ length records.new)) }
+) -> Result<(), Fault>
+    requires { count ≤ 256 }
+    ensures reads { operators_of entries.old.variables.now (length records.old) (length entries.old.records.now) count (entries_in entries.old) (place_of cursor.old) ≡ answered_by result (take count records.new, entries_in entries.new) cursor.new }
+    ensures room { OnOk result (count ≤ length records.new) }
+    ensures same { SameLender entries.old entries.new }
 {
-    let mut taken = used;
+    let mut room = Room::new(records);
+    // `i` is the operator's number in its faults.
     for i in 0..count {
         cursor.operator = Some(i as u16);
         cursor.word(b"begin_operator")?;
-        if i >= records.len() {
+        if room.is_full() {
             return Err(cursor.fault(Cause::Room));
         }
-        let found = operator(cursor, variables, entries, taken)?;
-        taken = found.first + found.conditions + found.effects;
-        records[i] = found;
+        room.push(operator(cursor, entries)?);
     }
     cursor.operator = None;
-    Ok(taken)
+    Ok(())
 }

@@ -2,6 +2,7 @@ ghost use Rattle.std.specs.Prelude.{◌≡◌, ℕ, ◌+◌, ◌-◌, ◌<◌, �
 ghost use Rattle.lines.specs.Views.{place_of, answered, answered_by};
 ghost use Rattle.sections.specs.Variables.{variable_of, variables_of, initials_of};
 
+use crate::room::Room;
 use lines::cursor::Cursor;
 use tables::cause::Cause;
 use tables::fault::Fault;
@@ -13,7 +14,7 @@ fn variable(cursor: &mut Cursor) -> Result<Variable, Fault>
 {
     let name = cursor.name()?;
     cursor.word(b"-1")?;
-    let domain = cursor.number(1, 255)?;
+    let domain = cursor.number(1..256)?;
     let from = cursor.at;
     cursor.skip(domain)?;
     let values = Span {
@@ -38,12 +39,13 @@ pub fn variable_list(
     ensures reads { variables_of (length records.old) count (place_of cursor.old) ≡ answered_by result (take count records.new) cursor.new }
     ensures room { OnOk result (count ≤ length records.new) }
 {
-    for i in 0..count {
+    let mut room = Room::new(records);
+    for _ in 0..count {
         cursor.word(b"begin_variable")?;
-        if i >= records.len() {
+        if room.is_full() {
             return Err(cursor.fault(Cause::Room));
         }
-        records[i] = variable(cursor)?;
+        room.push(variable(cursor)?);
     }
     Ok(())
 }
@@ -52,9 +54,9 @@ pub fn variable_list(
 pub fn initial_values(cursor: &mut Cursor, variables: &mut [Variable]) -> Result<(), Fault>
     ensures { initials_of [] variables.old (place_of cursor.old) ≡ answered_by result variables.new cursor.new }
 {
-    for i in 0..variables.len() {
-        let value = cursor.below(variables[i].domain as usize)?;
-        variables[i].initial = value as u8;
+    for variable in variables.iter_mut() {
+        let value = cursor.number(0..usize::from(variable.domain))?;
+        variable.initial = value as u8;
     }
     Ok(())
 }

@@ -1,8 +1,6 @@
-use Rattle.std.proofs.Common.{◌≡◌, ◌-◌, ◌≤◌, List, ◌++◌, length, IfOk, Ok, Err, Result, sym, refl, ◌∙◌, arith}
+use Rattle.std.proofs.Common.{◌≡◌, ◌≤◌, drop, List, ◌++◌, length, IfOk, Ok, Err, Result, sym, refl, arith}
 use Rattle.std.proofs.lemmas.Result.{err_from_is_err_and, IfOk-weaker}
 use Rattle.format.specs.Whole.{whole_of}
-use native.Mathlib.Nat.{sub-zero}
-use borrow.Rule.Slice.PartMut.{post_of}
 use Rattle.std.proofs.lemmas.List.{take_at, length-append}
 use Rattle.tables.specs.declared.fault.Fault.{Fault}
 use Rattle.lines.specs.declared.cursor.Cursor.{Cursor}
@@ -38,11 +36,10 @@ whole-from-body (Err f) vs more os es l h = refl
 pub returns : goal.returns
 unfolding whole_of
 returns c =
-    let z = sub-zero c.in_ok-count.field-0 in
-    let b = c.body.ensures.reads in
-    let more = post_of 0 (c.in_ok-count.field-0 - 0) c.variable_list.new.records in
-    let w = whole-from-body c.body.result c.body.new.variables more c.body.new.operators c.body.new.entries c.body.new.cursor c.body.ensures.room in
+    let read = c.body.ensures in
+    let new = c.body.new in
+    let more = drop c.in_ok-count.count c.variable_list.new.records in
     record {
-      reads = rw (c.in_ok-heading.ensures, c.in_ok-count.ensures.reads, c.in_ok-variable_list.ensures.reads) (rw z at b ∙ w);
-      room = IfOk-weaker c.body.result _ _ (λ n h. (simp length-append (omega (arith, h.0)), h.1, h.2)) c.body.ensures.room;
+      reads = rw (c.in_ok-heading.ensures, c.in_ok-count.ensures.reads, c.in_ok-variable_list.ensures.reads, read.reads) (whole-from-body c.body.result new.variables more new.operators new.entries new.cursor read.room);
+      room = IfOk-weaker c.body.result _ _ (λ n h. (simp length-append (omega (arith, h.0)), h.1, h.2)) read.room;
     }

@@ -1,49 +1,40 @@
-use Rattle.std.proofs.Common.{◌≡◌, true, false, ltb, length, take, ◌∙◌, arith}
+use Rattle.std.proofs.Common.{◌≡◌, ◌∙◌, arith, rules}
 use Rattle.std.proofs.lemmas.Result.{err_from_is_err_and}
-use Rattle.std.proofs.lemmas.List.{take_more_set, length-take-le}
-use Rattle.std.proofs.lemmas.Bool.Decides.{nat_tests}
-use Rattle.sections.specs.Variables.{variable_more}
 use Rattle.lines.specs.Views.{place_of}
 use Rattle.lines.proofs.Turns.{turns_more, turns-all}
+use Rattle.sections.specs.Variables.{variable_more}
+use Rattle.sections.specs.Held.{held, capacity}
 use Rattle.sections.proofs.variables.variable_list.Goals as goal
 
-pub returns-in_err-word : goal.returns-in_err-word
+pub returns-in_err-word-clause-reads : goal.returns-in_err-word-clause-reads
 unfolding variable_more
-returns-in_err-word c =
+returns-in_err-word-clause-reads c =
     let p = err_from_is_err_and c.from_residual.result c.from_residual.ensures.1 in
-    let t = turns_more (variable_more (length c.args.records.now)) (take c.loop-i.i c.loop-i.records) (place_of c.loop-i.cursor) c.args.count c.loop-i.i (omega arith) in
-    record { reads = c.loop-i.invariant.0 ∙ (t ∙ rw (p.1, p.2, c.in_err-word.ensures)); room = rw p.1 tt }
+    let r = c.loop.room in
+    c.loop.invariant.0 ∙ (turns_more (variable_more (capacity r)) (held r) (place_of c.loop.cursor) c.args.count c.loop.counter (omega arith) ∙ rw (c.in_err-word.ensures, p.1, p.2))
 
-pub returns-then-i-records : goal.returns-then-i-records
+pub returns-then-is_full-clause-reads : goal.returns-then-is_full-clause-reads
 unfolding variable_more
-returns-then-i-records c =
-    let t = turns_more (variable_more (length c.args.records.now)) (take c.loop-i.i c.loop-i.records) (place_of c.loop-i.cursor) c.args.count c.loop-i.i (omega arith) in
-    let l : length (take c.loop-i.i c.loop-i.records) ≡ c.loop-i.i = length-take-le c.loop-i.i c.loop-i.records (omega arith) in
-    let full : ltb c.loop-i.i (length c.args.records.now) ≡ false = grind (arith, nat_tests) in
-    record { reads = c.loop-i.invariant.0 ∙ (t ∙ rw (c.in_ok-word.ensures, l, full, c.fault.ensures)); room = tt }
+returns-then-is_full-clause-reads c =
+    let r = c.loop.room in
+    c.loop.invariant.0 ∙ (turns_more (variable_more (capacity r)) (held r) (place_of c.loop.cursor) c.args.count c.loop.counter (omega arith) ∙ rw (c.in_ok-word.ensures, c.if-is_full.ensures, c.fault.ensures))
 
-pub returns-in_err-records : goal.returns-in_err-records
+pub returns-in_err-variable-clause-reads : goal.returns-in_err-variable-clause-reads
 unfolding variable_more
-returns-in_err-records c =
-    let p = err_from_is_err_and c.from_residual-in_err-records.result c.from_residual-in_err-records.ensures.1 in
-    let t = turns_more (variable_more (length c.args.records.now)) (take c.loop-i.i c.loop-i.records) (place_of c.loop-i.cursor) c.args.count c.loop-i.i (omega arith) in
-    let l : length (take c.loop-i.i c.loop-i.records) ≡ c.loop-i.i = length-take-le c.loop-i.i c.loop-i.records (omega arith) in
-    let free : ltb c.loop-i.i (length c.args.records.now) ≡ true = grind (arith, nat_tests) in
-    record { reads = c.loop-i.invariant.0 ∙ (t ∙ rw (c.in_ok-word.ensures, l, free, c.in_err-records.ensures, p.1, p.2)); room = rw p.1 tt }
+returns-in_err-variable-clause-reads c =
+    let p = err_from_is_err_and c.from_residual-in_err-variable.result c.from_residual-in_err-variable.ensures.1 in
+    let r = c.loop.room in
+    c.loop.invariant.0 ∙ (turns_more (variable_more (capacity r)) (held r) (place_of c.loop.cursor) c.args.count c.loop.counter (omega arith) ∙ rw (c.in_ok-word.ensures, c.if-is_full.ensures, c.in_err-variable.ensures, p.1, p.2))
 
-pub loop-i-preserved : goal.loop-i-preserved
+pub loop-preserved : goal.loop-preserved
 unfolding variable_more
-loop-i-preserved c =
-    let t = turns_more (variable_more (length c.args.records.now)) (take c.loop-i.i c.loop-i.records) (place_of c.loop-i.cursor) c.args.count c.loop-i.i (omega arith) in
-    let l : length (take c.loop-i.i c.loop-i.records) ≡ c.loop-i.i = length-take-le c.loop-i.i c.loop-i.records (omega arith) in
-    let free : ltb c.loop-i.i (length c.args.records.now) ≡ true = grind (arith, nat_tests) in
-    let more = take_more_set c.loop-i.records c.loop-i.i c.in_ok-records.field-0 (omega arith) in
-    (c.loop-i.invariant.0 ∙ (t ∙ rw (c.in_ok-word.ensures, l, free, c.in_ok-records.ensures, more)), omega arith)
+loop-preserved c =
+    let r = c.loop.room in
+    let t = turns_more (variable_more (capacity r)) (held r) (place_of c.loop.cursor) c.args.count c.loop.counter (omega arith) in
+    let k = c.push.ensures.same in
+    (c.loop.invariant.0 ∙ (t ∙ rw (c.in_ok-word.ensures, c.if-is_full.ensures, c.in_ok-variable.ensures, c.push.ensures.held, k.capacity)), record { capacity = k.capacity ∙ c.loop.invariant.1.capacity; lender = k.lender ∙ c.loop.invariant.1.lender }, omega arith)
 
-pub returns : goal.returns
-returns c =
-    let e : c.loop-i.i ≡ c.args.count = omega arith in
-    record {
-      reads = c.loop-i.invariant.0 ∙ (turns-all (variable_more (length c.args.records.now)) (take c.loop-i.i c.loop-i.records) (place_of c.loop-i.cursor) c.args.count c.loop-i.i (omega arith) ∙ rw e);
-      room = omega arith;
-    }
+pub returns-clause-reads : goal.returns-clause-reads
+returns-clause-reads c =
+    let e : c.loop.room.used ≡ c.args.count = omega arith in
+    rw (c.loop.invariant.0, turns-all (variable_more (capacity c.loop.room)) (held c.loop.room) (place_of c.loop.cursor) c.args.count c.loop.counter (omega arith), e) (search rules)

@@ -1,9 +1,12 @@
-use Rattle.std.proofs.Common.{◌≡◌, ◌-◌, ◌≤◌, [], length, take}
+use Rattle.std.proofs.Common.{◌≡◌, ◌-◌, length}
 use Rattle.lines.specs.Reading.{turns}
-use Rattle.sections.specs.Variables.{variable_more}
 use Rattle.lines.specs.Views.{place_of}
+use Rattle.sections.specs.Variables.{variable_more, variables_of}
+use Rattle.sections.specs.Held.{held, capacity, SameLoan}
 use Rattle.sections.proofs.variables.variable_list.Given as goal
 
-abbrev pub invariant-loop-i : goal.invariant-loop-i
-invariant-loop-i l = (turns l.count (variable_more (length l.initial.records)) [] (place_of l.initial.cursor) ≡ turns (l.count - l.i) (variable_more (length l.initial.records)) (take l.i l.records) (place_of l.cursor))
-    × (l.i ≤ length l.initial.records)
+abbrev pub invariant-loop : goal.invariant-loop
+invariant-loop l =
+    (variables_of (length l.fn.records) l.count (place_of l.fn.cursor) ≡ turns (l.count - l.counter) (variable_more (capacity l.room)) (held l.room) (place_of l.cursor))
+    × SameLoan l.initial.room l.room
+    × (l.room.used ≡ l.counter)

@@ -8,11 +8,11 @@ use Rattle.lines.proofs.cursor.Cursor.skip.Goals as goal
 pub returns-in_err-line : goal.returns-in_err-line
 returns-in_err-line c =
     let p = err_from_is_err_and c.from_residual.result c.from_residual.ensures.1 in
-    c.loop-i.invariant ∙ (turns_more passed tt (place_of c.loop-i.self) c.args.count c.loop-i._i (omega arith) ∙ rw (p.1, p.2, c.in_err-line.ensures))
+    c.loop.invariant ∙ (turns_more passed tt (place_of c.loop.self) c.args.count c.loop.counter (omega arith) ∙ rw (p.1, p.2, c.in_err-line.ensures))
 
-pub loop-i-preserved : goal.loop-i-preserved
-loop-i-preserved c =
-    c.loop-i.invariant ∙ (turns_more passed tt (place_of c.loop-i.self) c.args.count c.loop-i._i (omega arith) ∙ rw c.in_ok-line.ensures)
+pub loop-preserved : goal.loop-preserved
+loop-preserved c =
+    c.loop.invariant ∙ (turns_more passed tt (place_of c.loop.self) c.args.count c.loop.counter (omega arith) ∙ rw c.in_ok-line.ensures)
 
 pub returns : goal.returns
-returns c = c.loop-i.invariant ∙ turns-all passed tt (place_of c.loop-i.self) c.args.count c.loop-i._i (omega arith)
+returns c = c.loop.invariant ∙ turns-all passed tt (place_of c.loop.self) c.args.count c.loop.counter (omega arith)
