@@ -8,8 +8,9 @@ use Rattle.task.specs.Model.{Model, IsState, AllHold, Admits, AllAdmit, updated,
 use Rattle.tables.proofs.Lists.{domain-at}
 use Rattle.abstraction.specs.declared.abstract_task.AbstractTask.{AbstractTask}
 use Rattle.abstraction.specs.Projected.{kept_at, cut_down, cut_action}
-use Rattle.abstraction.specs.Parts.{MayFollow, HoldsAt, AdmitsAt, value_after, or_else, untouched}
-use Rattle.abstraction.specs.AbstractTasks.{abstract_of, Stands, MayLeadTo}
+use Rattle.abstraction.specs.Parts.{MayFollow, HoldsAt, AdmitsAt, value_after, or_else}
+use Rattle.abstraction.specs.Standing.{unused, part_at}
+use Rattle.abstraction.specs.AbstractTasks.{abstract_of, MayLeadTo}
 use Rattle.abstraction.specs.Ranks.{product}
 use Rattle.abstraction.specs.Lawful.Cutting.{place_found}
 use Rattle.abstraction.specs.Lawful.Projecting.{operator-cut}
@@ -73,12 +74,12 @@ operators-low A = let a = operators-long A in let c = A.task.now.listed in omega
 pub number-low : (A : AbstractTask) (o : ℕ) → o < length (abstract_of A).operators → o < 256
 number-low A o h = let l = operators-low A in omega arith
 
-pub domain-low : (A : AbstractTask) (i : ℕ) → Stands A → i < length A.pattern.now → get_or (abstract_of A).domains i 0 ≤ 255
-domain-low A i st h =
+pub domain-low : (A : AbstractTask) (i : ℕ) → i < length A.pattern.now → get_or (abstract_of A).domains i 0 ≤ 255
+domain-low A i h =
     let t = A.task.now in
     let v = get_or A.pattern.now i 0 in
     let l = length-map t.variables.now (λ w. w.domain) in
-    let k = st.pattern.within i h in
+    let k = A.stands.pattern.within i h in
     let w = (t.variables_fit v (omega arith)).3 in
     let e = domain-at t.variables.now v in
     let f = get_or-map (λ u. get_or (model t).domains u 0) A.pattern.now i 0 0 h in
@@ -89,18 +90,18 @@ or_lt None x d f h = h
 or_lt (Some y) x d f h = f y refl
 
 -- what an operator leads to from an abstract state, by place
-pub applied-at : (A : AbstractTask) (s : List ℕ) (o i : ℕ) → Stands A → o < length (abstract_of A).operators → IsState (abstract_of A) s → i < length A.pattern.now
-    → get_or (applied (abstract_of A) s o) i 0 ≡ or_else (get_or A.parts (8 * o + i) untouched).value (get_or s i 0)
+pub applied-at : (A : AbstractTask) (s : List ℕ) (o i : ℕ) → o < length (abstract_of A).operators → IsState (abstract_of A) s → i < length A.pattern.now
+    → get_or (applied (abstract_of A) s o) i 0 ≡ or_else (part_at A.operators o i).value (get_or s i 0)
 unfolding applied
-applied-at A s o i st h is l =
+applied-at A s o i h is l =
     let n = length-map A.pattern.now (λ v. get_or (model A.task.now).domains v 0) in
     let k : i < length s = (let q = is.long in omega arith) in
-    updated-at s i (operator (abstract_of A) o).effects k ∙ sym ((st.parts o i h l).after (get_or s i 0))
+    updated-at s i (operator (abstract_of A) o).effects k ∙ sym ((A.stands.parts o i h l).after (get_or s i 0))
 
 -- which is again an abstract state
-pub applied-state : (A : AbstractTask) (s : List ℕ) (o : ℕ) → Stands A → o < length (abstract_of A).operators → IsState (abstract_of A) s → IsState (abstract_of A) (applied (abstract_of A) s o)
+pub applied-state : (A : AbstractTask) (s : List ℕ) (o : ℕ) → o < length (abstract_of A).operators → IsState (abstract_of A) s → IsState (abstract_of A) (applied (abstract_of A) s o)
 unfolding applied
-applied-state A s o st h is =
+applied-state A s o h is =
     let n = length-map A.pattern.now (λ v. get_or (model A.task.now).domains v 0) in
     let l = updated-long s (operator (abstract_of A) o).effects in
     record {
@@ -108,63 +109,63 @@ applied-state A s o st h is =
       within = λ i k.
           let q = is.long in
           let p : i < length A.pattern.now = omega arith in
-          subst (λ z. z < get_or (abstract_of A).domains i 0) (sym (applied-at A s o i st h is p))
-          (or_lt (get_or A.parts (8 * o + i) untouched).value (get_or s i 0) (get_or (abstract_of A).domains i 0) (st.parts o i h p).value_fits (is.within i (omega arith)));
+          subst (λ z. z < get_or (abstract_of A).domains i 0) (sym (applied-at A s o i h is p))
+          (or_lt (part_at A.operators o i).value (get_or s i 0) (get_or (abstract_of A).domains i 0) (A.stands.parts o i h p).value_fits (is.within i (omega arith)));
     }
 
 -- an operator applies where each place has the value that its part requires
-pub applies-each : (A : AbstractTask) (s : List ℕ) (o : ℕ) → Stands A → o < length (abstract_of A).operators
-    → ((i : ℕ) → i < length A.pattern.now → Admits (get_or s i 0) (get_or A.parts (8 * o + i) untouched).required) → Applies (abstract_of A) s o
+pub applies-each : (A : AbstractTask) (s : List ℕ) (o : ℕ) → o < length (abstract_of A).operators
+    → ((i : ℕ) → i < length A.pattern.now → Admits (get_or s i 0) (part_at A.operators o i).required) → Applies (abstract_of A) s o
 unfolding Applies
-applies-each A s o st h each =
+applies-each A s o h each =
     let T = model A.task.now in
     let P = A.pattern.now in
     let l = length-map T.operators (cut_action P) in
     let is = operator-cut T P o (omega arith) in (
       h,
       hold-all s (length P) (operator (abstract_of A) o).conditions (subst (λ z. Inside (length P) z.conditions) (sym is) (cut_inside P (operator T o).conditions))
-          (λ i k. ((st.parts o i h k).enough (get_or s i 0) (each i k)).0),
+          (λ i k. ((A.stands.parts o i h k).enough (get_or s i 0) (each i k)).0),
       admit-all s (length P) (operator (abstract_of A) o).effects (subst (λ z. Inside (length P) z.effects) (sym is) (cut_inside P (operator T o).effects))
-          (λ i k. ((st.parts o i h k).enough (get_or s i 0) (each i k)).1),
+          (λ i k. ((A.stands.parts o i h k).enough (get_or s i 0) (each i k)).1),
     )
 
-pub applies-at : (A : AbstractTask) (s : List ℕ) (o i : ℕ) → Stands A → i < length A.pattern.now → Applies (abstract_of A) s o → Admits (get_or s i 0) (get_or A.parts (8 * o + i) untouched).required
+pub applies-at : (A : AbstractTask) (s : List ℕ) (o i : ℕ) → i < length A.pattern.now → Applies (abstract_of A) s o → Admits (get_or s i 0) (part_at A.operators o i).required
 unfolding Applies
-applies-at A s o i st k a = (st.parts o i a.0 k).needed (get_or s i 0) (hold-each s i (operator (abstract_of A) o).conditions a.1) (admit-each s i (operator (abstract_of A) o).effects a.2)
+applies-at A s o i k a = (A.stands.parts o i a.0 k).needed (get_or s i 0) (hold-each s i (operator (abstract_of A) o).conditions a.1) (admit-each s i (operator (abstract_of A) o).effects a.2)
 
 pub applies-number : (P : Model) (s : List ℕ) (o : ℕ) → Applies P s o → o < length P.operators
 unfolding Applies
 applies-number P s o a = a.0
 
-pub goal-each : (A : AbstractTask) (s : List ℕ) → Stands A → ((i : ℕ) → i < length A.pattern.now → Admits (get_or s i 0) (get_or A.goal i None)) → IsGoal (abstract_of A) s
+pub goal-each : (A : AbstractTask) (s : List ℕ) → ((i : ℕ) → i < length A.pattern.now → Admits (get_or s i 0) ((get_or A.places i unused).goal)) → IsGoal (abstract_of A) s
 unfolding IsGoal
-goal-each A s st each =
+goal-each A s each =
     let P = A.pattern.now in
-    hold-all s (length P) (abstract_of A).goal (cut_inside P (model A.task.now).goal) (λ i k. (st.goal i k).enough (get_or s i 0) (each i k))
+    hold-all s (length P) (abstract_of A).goal (cut_inside P (model A.task.now).goal) (λ i k. (A.stands.places i k).goal.enough (get_or s i 0) (each i k))
 
-pub goal-at : (A : AbstractTask) (s : List ℕ) (i : ℕ) → Stands A → i < length A.pattern.now → IsGoal (abstract_of A) s → Admits (get_or s i 0) (get_or A.goal i None)
+pub goal-at : (A : AbstractTask) (s : List ℕ) (i : ℕ) → i < length A.pattern.now → IsGoal (abstract_of A) s → Admits (get_or s i 0) ((get_or A.places i unused).goal)
 unfolding IsGoal
-goal-at A s i st k g = (st.goal i k).needed (get_or s i 0) (hold-each s i (abstract_of A).goal g)
+goal-at A s i k g = (A.stands.places i k).goal.needed (get_or s i 0) (hold-each s i (abstract_of A).goal g)
 
 -- the digit of a place, where `rest` is left of a rank
-pub digit-of : (A : AbstractTask) (i rest : ℕ) → Stands A → i < length A.pattern.now → rest < product (drop i (abstract_of A).domains) → Digit (abstract_of A).domains i rest (get_or A.weights i 0)
-digit-of A i rest st h l = let n = places A in digit_at (abstract_of A).domains i rest (get_or A.weights i 0) (omega arith) (st.weights i h) l
+pub digit-of : (A : AbstractTask) (i rest : ℕ) → i < length A.pattern.now → rest < product (drop i (abstract_of A).domains) → Digit (abstract_of A).domains i rest (get_or A.places i unused).weight
+digit-of A i rest h l = let n = places A in digit_at (abstract_of A).domains i rest (get_or A.places i unused).weight (omega arith) ((A.stands.places i h).weight) l
 
 -- one more place of what an operator leads to
-pub rank_step : (A : AbstractTask) (s : List ℕ) (o i r y : ℕ) → Stands A → o < length (abstract_of A).operators → IsState (abstract_of A) s → i < length A.pattern.now
-    → r ≡ lead (abstract_of A).domains (applied (abstract_of A) s o) i → y ≡ or_else (get_or A.parts (8 * o + i) untouched).value (get_or s i 0)
-    → (r + y * get_or A.weights i 0 ≡ lead (abstract_of A).domains (applied (abstract_of A) s o) (i + 1)) × (r + y * get_or A.weights i 0 < 65536)
-rank_step A s o i r y st h is l e f =
+pub rank_step : (A : AbstractTask) (s : List ℕ) (o i r y : ℕ) → o < length (abstract_of A).operators → IsState (abstract_of A) s → i < length A.pattern.now
+    → r ≡ lead (abstract_of A).domains (applied (abstract_of A) s o) i → y ≡ or_else (part_at A.operators o i).value (get_or s i 0)
+    → (r + y * (get_or A.places i unused).weight ≡ lead (abstract_of A).domains (applied (abstract_of A) s o) (i + 1)) × (r + y * (get_or A.places i unused).weight < 65536)
+rank_step A s o i r y h is l e f =
     let P = abstract_of A in
     let b = applied P s o in
-    let bs = applied-state A s o st h is in
+    let bs = applied-state A s o h is in
     let n = places A in
     let a = lead-more P.domains b i in
-    let w : y * get_or A.weights i 0 ≡ get_or b i 0 * product (drop (i + 1) P.domains) = ap₂ (λ u v. u * v) (f ∙ sym (applied-at A s o i st h is l)) (st.weights i l) in
-    let q : r + y * get_or A.weights i 0 ≡ lead P.domains b (i + 1) = omega arith in
+    let w : y * (get_or A.places i unused).weight ≡ get_or b i 0 * product (drop (i + 1) P.domains) = ap₂ (λ u v. u * v) (f ∙ sym (applied-at A s o i h is l)) ((A.stands.places i l).weight) in
+    let q : r + y * (get_or A.places i unused).weight ≡ lead P.domains b (i + 1) = omega arith in
     let c = lead-le P.domains b (i + 1) bs.long (omega arith) in
     let d = rank_lt P.domains b (state-fit P b bs) in
-    let g = st.few in
+    let g = A.stands.few in
     (q, omega arith)
 
 follows : (required value : Option ℕ) (x : ℕ) → Admits x required → MayFollow required value (or_else value x)
@@ -172,7 +173,7 @@ follows required None x h = h
 follows required (Some y) x h = refl
 
 -- an operator leads only to states whose values may follow it
-pub leads-only : (A : AbstractTask) (s : List ℕ) (o : ℕ) → Stands A → IsState (abstract_of A) s → Applies (abstract_of A) s o → MayLeadTo A o (applied (abstract_of A) s o)
-leads-only A s o st is a i h =
-    let p = get_or A.parts (8 * o + i) untouched in
-    subst (MayFollow p.required p.value) (sym (applied-at A s o i st (applies-number (abstract_of A) s o a) is h)) (follows p.required p.value (get_or s i 0) (applies-at A s o i st h a))
+pub leads-only : (A : AbstractTask) (s : List ℕ) (o : ℕ) → IsState (abstract_of A) s → Applies (abstract_of A) s o → MayLeadTo A o (applied (abstract_of A) s o)
+leads-only A s o is a i h =
+    let p = part_at A.operators o i in
+    subst (MayFollow p.required p.value) (sym (applied-at A s o i (applies-number (abstract_of A) s o a) is h)) (follows p.required p.value (get_or s i 0) (applies-at A s o i h a))

@@ -1,8 +1,8 @@
 -- Products of numbers of values, and their cut at the largest number of 32 bits.
-use Rattle.std.proofs.Common.{◌≡◌, ℕ, zero, suc, ◌+◌, ◌*◌, ◌<◌, ◌≤◌, min, List, [], ◌∷◌, length, get_or, drop, sym, refl, ap, ◌∙◌, subst, ⊎_elim, mul-le-mul_right, suc-mul, one-mul, zero-mul, arith}
+use Rattle.std.proofs.Common.{◌≡◌, ℕ, zero, suc, ◌+◌, ◌*◌, ◌<◌, ◌≤◌, min, List, [], ◌∷◌, length, get_or, drop, sym, ap, ◌∙◌, subst, ⊎_elim, mul-le-mul_right, suc-mul, one-mul, zero-mul, arith}
 use lib.ListN.{length-map}
-use Rattle.std.specs.List.{between}
-use Rattle.std.proofs.lemmas.Slice.{first_rest}
+use Rattle.std.specs.List.{fold}
+use Rattle.std.proofs.Math.Nat.{mul_comm, mul_assoc, mul-one}
 use Rattle.std.proofs.lemmas.Bool.{cases_lt}
 use Rattle.std.proofs.lemmas.List.{get_or-map, drop-map}
 use Rattle.task.specs.declared.task.Task.{Task}
@@ -23,12 +23,14 @@ cut_product (suc s) p = let a = suc-mul s (min p 4294967295) in let b = suc-mul 
         (λ (l : 4294967296 ≤ p). omega arith)
         (cases_lt p 4294967296)
 
-pub product-empty : (T : Model) (P : List ℕ) → length P ≡ 0 → product (sizes T P) ≡ 1
-product-empty T [] l = refl
-product-empty T (v ∷ P) l = absurd (omega arith)
-
-pub product-head : (T : Model) (P : List ℕ) → 0 < length P → product (sizes T P) ≡ get_or T.domains (get_or P 0 0) 0 * product (sizes T (between 1 (length P) P))
-product-head T P l = ap (λ z. product (sizes T z)) (first_rest P 0 l)
+-- and over a row of variables
+pub counted : (T : Model) (n : ℕ) (pattern : List ℕ) → fold (λ n v. min (n * get_or T.domains v 0) 4294967295) (min n 4294967295) pattern ≡ min (n * product (sizes T pattern)) 4294967295
+counted T n [] = ap (λ z. min z 4294967295) (sym (mul-one n))
+counted T n (v ∷ pattern) =
+    let d = get_or T.domains v 0 in
+    let cut : min (min n 4294967295 * d) 4294967295 ≡ min (n * d) 4294967295 =
+    ap (λ z. min z 4294967295) (mul_comm (min n 4294967295) d) ∙ cut_product d n ∙ ap (λ z. min z 4294967295) (mul_comm d n) in
+    ap (λ z. fold (λ n v. min (n * get_or T.domains v 0) 4294967295) z pattern) cut ∙ counted T (n * d) pattern ∙ ap (λ z. min z 4294967295) (mul_assoc n d (product (sizes T pattern)))
 
 -- each variable of a task has a value
 pub positive-at : (t : Task) (v : ℕ) → v < length (model t).domains → 0 < get_or (model t).domains v 0

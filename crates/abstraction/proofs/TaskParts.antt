@@ -9,11 +9,9 @@ use Rattle.tables.specs.Rules.{Distinct, OperatorsDistinct}
 use Rattle.task.specs.Model.{Admits, model, operator, action}
 use Rattle.tables.proofs.Lists.{domain-at, part_at}
 use Rattle.task.proofs.Actions.{action-at}
-use Rattle.abstraction.specs.Parts.{value_on, effect_on, PartOf}
-use Rattle.abstraction.proofs.Parts.{Free, free-holds, free-admits, free-after, value-needed, value-enough, value_fits, effect-needed, effect-enough, effect-after, effect-none, effect-some}
-
-absurd-none : {x : ℕ} → ◌≡◌ {A = Option ℕ} None (Some x) → ⊥
-absurd-none e = let z : ◌≡◌ {A = ℕ} 0 1 = cc in omega arith
+use Rattle.abstraction.specs.declared.part.OperatorPart.{OperatorPart}
+use Rattle.abstraction.specs.Parts.{value_on, effect_part, effect_on, PartOf}
+use Rattle.abstraction.proofs.Parts.{Free, some≢none, free-holds, free-admits, free-after, admits-here, admits-only, after-only, on_none, on_some, value-needed, value-enough}
 
 distinct-out : (es : List Entry) (os : List Operator) → ∥ OperatorsDistinct es os ∥₁ → OperatorsDistinct es os
 distinct-out es os h k l i j m n e = ∥∥₁_elim h (λ x y. absurd x) (λ d. d k l i j m n e)
@@ -82,31 +80,31 @@ parted t o h =
     record { is = action-at es t.operators.now o h; conditions = d.0; effects = d.1; apart = d.2 }
 
 -- an effect on the variable is the part, since no condition is on it too
-pub part-effect : (t : Task) (o v y : ℕ) → o < length t.operators.now
-    → (effect_on v (part t.entries.now (effects_at (get_or t.operators.now o zero_operator)) (end_at (get_or t.operators.now o zero_operator)))).value ≡ Some y
-    → PartOf (operator (model t) o) v (get_or (model t).domains v 0) (effect_on v (part t.entries.now (effects_at (get_or t.operators.now o zero_operator)) (end_at (get_or t.operators.now o zero_operator))))
-part-effect t o v y h some =
+pub part-effect : (t : Task) (o v : ℕ) (p : OperatorPart) → o < length t.operators.now
+    → effect_on v (part t.entries.now (effects_at (get_or t.operators.now o zero_operator)) (end_at (get_or t.operators.now o zero_operator))) ≡ Some p
+    → PartOf (operator (model t) o) v (get_or (model t).domains v 0) p
+part-effect t o v p h some =
     let es = t.entries.now in
     let r : Operator = get_or t.operators.now o zero_operator in
     let w = parted t o h in
     let cs : List Entry = part es r.first (effects_at r) in
     let fs : List Entry = part es (effects_at r) (end_at r) in
-    let at = effect-some v y fs some in
-    let free : Free v cs = λ i l q. w.apart i at.0 l at.1 (q ∙ sym at.2) in
-    subst (λ z. PartOf z v (get_or (model t).domains v 0) (effect_on v fs)) (sym w.is) (record {
-      needed = λ x a b. effect-needed v x fs b;
-      enough = λ x a. (free-holds v x cs free, effect-enough v x fs w.effects a);
-      after = λ x. effect-after v x fs w.effects;
-      required_fits = λ x e. required_fits t (effects_at r) (end_at r) v at.0 x at.1 at.2 (sym (ap (λ z. z.required) at.3) ∙ e);
+    let at = on_some effect_part v fs p some in
+    let k = at.0 in
+    let free : Free v cs = λ i l q. w.apart i k l at.1.inside (q ∙ sym at.1.names) in
+    subst (λ z. PartOf z v (get_or (model t).domains v 0) p) (sym w.is) (subst (PartOf _ v _) (sym at.2) (record {
+      needed = λ x a b. admits-here v x fs k at.1 b;
+      enough = λ x a. (free-holds v x cs free, admits-only v x fs k w.effects at.1 a);
+      after = λ x. after-only v x fs k w.effects at.1;
+      required_fits = λ x e. required_fits t (effects_at r) (end_at r) v k x at.1.inside at.1.names e;
       value_fits = λ x e.
-          let same : ◌≡◌ {A = Option ℕ} (Some (get_or fs at.0 zero_entry).value) (Some x) = sym (ap (λ z. z.value) at.3) ∙ e in
-          let is : (get_or fs at.0 zero_entry).value ≡ x = cc in
-          subst (λ z. z < get_or (model t).domains v 0) is (entry-fits t (effects_at r) (end_at r) v at.0 at.1 at.2);
-    })
+          let is : (get_or fs k zero_entry).value ≡ x = cc in
+          subst (λ z. z < get_or (model t).domains v 0) is (entry-fits t (effects_at r) (end_at r) v k at.1.inside at.1.names);
+    }))
 
 -- without an effect on the variable the part is the condition on it
 pub part-condition : (t : Task) (o v : ℕ) (q : Option ℕ) → o < length t.operators.now
-    → (effect_on v (part t.entries.now (effects_at (get_or t.operators.now o zero_operator)) (end_at (get_or t.operators.now o zero_operator)))).value ≡ None
+    → effect_on v (part t.entries.now (effects_at (get_or t.operators.now o zero_operator)) (end_at (get_or t.operators.now o zero_operator))) ≡ None
     → q ≡ value_on v (part t.entries.now (get_or t.operators.now o zero_operator).first (effects_at (get_or t.operators.now o zero_operator)))
     → PartOf (operator (model t) o) v (get_or (model t).domains v 0) (record { required = q; value = None })
 part-condition t o v q h none e =
@@ -115,11 +113,13 @@ part-condition t o v q h none e =
     let w = parted t o h in
     let cs : List Entry = part es r.first (effects_at r) in
     let fs : List Entry = part es (effects_at r) (end_at r) in
-    let free : Free v fs = effect-none v fs none in
+    let free : Free v fs = on_none effect_part v fs none in
     subst (λ z. PartOf z v (get_or (model t).domains v 0) (record { required = q; value = None })) (sym w.is) (record {
       needed = λ x a b. subst (Admits x) (sym e) (value-needed v x cs a);
       enough = λ x a. (value-enough v x cs w.conditions (subst (Admits x) e a), free-admits v x fs free);
       after = λ x. sym (free-after v x fs free);
-      required_fits = λ x k. value_fits v (get_or (model t).domains v 0) x cs (λ i l m. entry-fits t r.first (effects_at r) v i l m) (sym e ∙ k);
-      value_fits = λ x k. absurd (absurd-none k);
+      required_fits = λ x k.
+          let at = on_some (λ z. z.value) v cs x (sym e ∙ k) in
+          subst (λ z. z < get_or (model t).domains v 0) (sym at.2) (entry-fits t r.first (effects_at r) v at.0 at.1.inside at.1.names);
+      value_fits = λ x k. absurd (some≢none (sym k));
     })

@@ -2,6 +2,8 @@ pub mod Patterns
 pub mod Projected
 pub mod Ranks
 pub mod Parts
+pub mod Standing
+pub mod Filling
 pub mod AbstractTasks
 pub mod Steps
 pub mod Lawful

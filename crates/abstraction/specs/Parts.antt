@@ -1,5 +1,6 @@
 -- What facts and effects say of one variable, and an operator or a goal cut down to it.
-use Rattle.std.specs.Prelude.{◌≡◌, ℕ, ◌<◌, cond, List, [], ◌∷◌, Some, None, Option, ◌==◌}
+use Rattle.std.specs.Prelude.{◌≡◌, ℕ, ◌<◌, cond, List, [], ◌∷◌, Some, None, Option, ◌==◌, option_map}
+use Rattle.std.specs.List.{find}
 use Rattle.tables.specs.declared.records.Entry.{Entry}
 use Rattle.task.specs.Model.{Action, Admits}
 use Rattle.abstraction.specs.declared.part.OperatorPart.{OperatorPart}
@@ -19,19 +20,25 @@ abbrev pub value_after : ℕ → ℕ → List Entry → ℕ
 value_after v x [] = x
 value_after v x (e ∷ es) = value_after v (cond (e.variable == v) e.value x) es
 
+-- the first fact or effect on the variable v
+abbrev pub first_on : ℕ → List Entry → Option Entry
+first_on v es = find (λ e. e.variable == v) es
+
 -- the value that the first fact on the variable v gives it
 abbrev pub value_on : ℕ → List Entry → Option ℕ
-value_on v [] = None
-value_on v (e ∷ es) = cond (e.variable == v) (Some e.value) (value_on v es)
+value_on v es = option_map (λ e. e.value) (first_on v es)
 
 -- nothing is required of the variable, and it keeps its value
 abbrev pub untouched : OperatorPart
 untouched = record { required = None; value = None }
 
--- the first effect on the variable v
-abbrev pub effect_on : ℕ → List Entry → OperatorPart
-effect_on v [] = untouched
-effect_on v (e ∷ es) = cond (e.variable == v) (record { required = e.required; value = Some e.value }) (effect_on v es)
+-- the part that an effect makes
+abbrev pub effect_part : Entry → OperatorPart
+effect_part e = record { required = e.required; value = Some e.value }
+
+-- the part that the first effect on the variable v makes
+abbrev pub effect_on : ℕ → List Entry → Option OperatorPart
+effect_on v es = option_map effect_part (first_on v es)
 
 -- the value that is set, or else the one before
 abbrev pub or_else : Option ℕ → ℕ → ℕ

@@ -6,10 +6,18 @@ use Rattle.task.specs.Model.{Model}
 abbrev pub Rises : List ℕ → ℕ → Type 0
 Rises pattern i = 0 < i → slice_index pattern (i - 1) < slice_index pattern i
 
+-- each is a variable of the task
+abbrev pub Listed : Model → List ℕ → Type 0
+Listed T pattern = (i : ℕ) → i < length pattern → slice_index pattern i < length T.domains
+
+-- each is above the one before it
+abbrev pub Rising : List ℕ → Type 0
+Rising pattern = (i : ℕ) → i < length pattern → Rises pattern i
+
 pub record IsPattern (T : Model) (pattern : List ℕ) : Type 0 where
   pub few : length pattern ≤ 8
-  pub within : (i : ℕ) → i < length pattern → slice_index pattern i < length T.domains
-  pub rising : (i : ℕ) → i < length pattern → Rises pattern i
+  pub within : Listed T pattern
+  pub rising : Rising pattern
 
 -- the abstract state of a state: the values of the pattern's variables
 abbrev pub abstraction : List ℕ → List ℕ → List ℕ

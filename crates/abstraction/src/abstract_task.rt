@@ -1,14 +1,17 @@
-use super::part::OperatorPart;
+ghost use Rattle.task.specs.Model.{model};
+ghost use Rattle.abstraction.specs.Standing.{Stands};
+ghost use Rattle.abstraction.specs.Lawful.Standing.{stands-prop};
+
+use super::part::AbstractOperator;
+use super::place::Place;
 use task::task::Task;
 
-// A task cut down to a pattern. Of each place of the pattern it has the number of values, the product of the numbers of values
-// of the later places, the value in a goal state, if any, and of the operator o its part at 8 * o + place.
+// A task cut down to a pattern: what each place of the pattern has, and each operator cut down to it.
 #[derive(Drop)]
-pub struct AbstractTask<'t, 'a, 'p> {
-    pub task: &'t Task<'a>,
-    pub pattern: &'p [u8],
-    pub domains: [u8; 8],
-    pub weights: [u32; 8],
-    pub goal: [Option<u8>; 8],
-    pub parts: [OperatorPart; 2048],
+pub struct AbstractTask<'a> {
+    pub task: &'a Task<'a>,
+    pub pattern: &'a [u8],
+    pub places: [Place; 8],
+    pub operators: [AbstractOperator; 256],
+    pub ghost stands: { Stands (model task.now) pattern.now places operators } by { stands-prop (model task.now) pattern.now places operators },
 }

@@ -11,30 +11,23 @@ use task::task::Task;
 fn value_on(facts: &[Entry], variable: u8) -> Option<u8>
     ensures { result ≡ value_on variable facts.now }
 {
-    for fact in facts {
-        if fact.variable == variable {
-            return Some(fact.value);
-        }
-    }
-    None
+    facts
+        .iter()
+        .find(|fact| fact.variable == variable)
+        .map(|fact| fact.value)
 }
 
-// The effect on the variable, if there is one.
-fn effect_on(effects: &[Entry], variable: u8) -> OperatorPart
+// The part that an effect on the variable makes, if there is one.
+fn effect_on(effects: &[Entry], variable: u8) -> Option<OperatorPart>
     ensures { result ≡ effect_on variable effects.now }
 {
-    for effect in effects {
-        if effect.variable == variable {
-            return OperatorPart {
-                required: effect.required,
-                value: Some(effect.value),
-            };
-        }
-    }
-    OperatorPart {
-        required: None,
-        value: None,
-    }
+    effects
+        .iter()
+        .find(|effect| effect.variable == variable)
+        .map(|effect| OperatorPart {
+            required: effect.required,
+            value: Some(effect.value),
+        })
 }
 
 // The operator cut down to the variable. No operator names a variable twice, so an effect on it leaves no condition on it.
@@ -43,15 +36,11 @@ pub(crate) fn operator_part(task: &Task<'_>, operator: usize, variable: u8) -> O
     ensures { PartOf (operator_of (model task.now) operator) variable (slice_index (model task.now).domains variable) result }
 {
     let record = task.operators[operator];
-    let from = record.first;
-    let middle = from + record.conditions;
-    let to = middle + record.effects;
-    let effect = effect_on(&task.entries[middle..to], variable);
-    if let Some(_) = effect.value {
-        return effect;
+    if let Some(part) = effect_on(record.effects_in(task.entries), variable) {
+        return part;
     }
     OperatorPart {
-        required: value_on(&task.entries[from..middle], variable),
+        required: value_on(record.conditions_in(task.entries), variable),
         value: None,
     }
 }

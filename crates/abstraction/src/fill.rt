@@ -1,99 +1,88 @@
 // Making an abstract task.
-ghost use Rattle.std.specs.Prelude.{◌≡◌, ℕ, suc, ◌+◌, ◌*◌, ◌<◌, ◌≤◌, min, length, drop, None, slice_index, slice_index_or};
-ghost use Rattle.task.specs.Model.{model, operator as operator_of};
+ghost use Rattle.std.specs.Prelude.{◌≡◌, ℕ, ◌<◌, ◌≤◌, length, slice_index_or};
+ghost use Rattle.task.specs.Model.{model};
 ghost use Rattle.abstraction.specs.Patterns.{IsPattern};
 ghost use Rattle.abstraction.specs.Projected.{sizes};
 ghost use Rattle.abstraction.specs.Ranks.{product};
-ghost use Rattle.abstraction.specs.Parts.{untouched, PartOf, GoalPart};
-ghost use Rattle.abstraction.specs.AbstractTasks.{Stands};
+ghost use Rattle.abstraction.specs.Standing.{unused, no_operator};
+ghost use Rattle.abstraction.specs.Filling.{PlaceAt, PartAt, OperatorAt};
 
 use super::abstract_task::AbstractTask;
 use super::cut::{goal_part, operator_part};
-use super::part::OperatorPart;
+use super::part::{AbstractOperator, OperatorPart};
 use super::pattern::rank_count;
+use super::place::Place;
+use std::array;
 use task::task::Task;
 
-// Writes how many values the variable at each place has.
-fn fill_domains(domains: &mut [u8], task: &Task<'_>, pattern: &[u8])
-    requires { length pattern.now ≤ length domains.old }
-    ensures { (i : ℕ) → i < length pattern.now → slice_index domains.new i ≡ slice_index (model task.now).domains (slice_index pattern.now i) }
+// What a place of the pattern has.
+fn place_at(task: &Task<'_>, pattern: &[u8], index: usize) -> Place
+    ensures { PlaceAt task.now pattern.now index result }
 {
-    for place in 0..pattern.len() {
-        domains[place] = task.domain(pattern[place] as usize);
+    if index >= pattern.len() {
+        return Place::UNUSED;
+    }
+    let variable = pattern[index];
+    Place {
+        domain: task.domain(usize::from(variable)),
+        weight: rank_count(task, &pattern[index + 1..]),
+        goal: goal_part(task, variable),
     }
 }
 
-// Writes, for each place, the product of the numbers of values of the later places.
-fn fill_weights(weights: &mut [u32], task: &Task<'_>, pattern: &[u8])
-    requires { length pattern.now ≤ length weights.old }
-    ensures { (i : ℕ) → i < length pattern.now → slice_index weights.new i ≡ min (product (sizes (model task.now) (drop (i + 1) pattern.now))) 4294967295 }
+// The operator's part at a place of the pattern.
+fn part_at(task: &Task<'_>, pattern: &[u8], operator: usize, index: usize) -> OperatorPart
+    ensures { PartAt task.now pattern.now operator index result }
 {
-    for place in 0..pattern.len() {
-        weights[place] = rank_count(task, &pattern[place + 1..pattern.len()]);
+    if operator >= task.operators.len() || index >= pattern.len() {
+        return OperatorPart::UNTOUCHED;
+    }
+    operator_part(task, operator, pattern[index])
+}
+
+// The operator cut down to the pattern.
+fn abstract_operator(task: &Task<'_>, pattern: &[u8], operator: usize) -> AbstractOperator
+    ensures { OperatorAt task.now pattern.now operator result }
+{
+    AbstractOperator {
+        parts: array::from_fn(|index| part_at(task, pattern, operator, index)),
     }
 }
 
-// Writes the goal's value at each place.
-fn fill_goal(goal: &mut [Option<u8>], task: &Task<'_>, pattern: &[u8])
-    requires { length pattern.now ≤ length goal.old }
-    ensures { (i : ℕ) → i < length pattern.now → GoalPart (model task.now).goal (slice_index pattern.now i) (slice_index_or goal.new i None) }
+// What each place has.
+fn places_of(task: &Task<'_>, pattern: &[u8]) -> [Place; 8]
+    ensures long { length result ≡ 8 }
+    ensures places { (i : ℕ) → i < 8 → PlaceAt task.now pattern.now i (slice_index_or result i unused) }
 {
-    for place in 0..pattern.len() {
-        goal[place] = goal_part(task, pattern[place]);
-    }
+    array::from_fn(|index| place_at(task, pattern, index))
 }
 
-// Writes the parts of one operator, and leaves those of the operators before it.
-fn fill_operator(parts: &mut [OperatorPart], task: &Task<'_>, pattern: &[u8], operator: usize)
-    requires number { operator < length task.now.operators.now }
-    requires few { length pattern.now ≤ 8 }
-    requires room { 8 * length task.now.operators.now ≤ length parts.old }
-    ensures parts { (i : ℕ) → i < length pattern.now → PartOf (operator_of (model task.now) operator) (slice_index pattern.now i) (slice_index (model task.now).domains (slice_index pattern.now i)) (slice_index_or parts.new (8 * operator + i) untouched) }
-    ensures before { (k : ℕ) → k < 8 * operator → slice_index_or parts.new k untouched ≡ slice_index_or parts.old k untouched }
+// Each operator cut down to the pattern.
+fn operators_of(task: &Task<'_>, pattern: &[u8]) -> [AbstractOperator; 256]
+    ensures long { length result ≡ 256 }
+    ensures operators { (o : ℕ) → o < 256 → OperatorAt task.now pattern.now o (slice_index_or result o no_operator) }
 {
-    for place in 0..pattern.len() {
-        parts[8 * operator + place] = operator_part(task, operator, pattern[place]);
-    }
+    // The closure's clause is written out: 256 calls are too many for what they gave to be read off its body.
+    array::from_fn(
+        |operator| -> AbstractOperator
+            ensures { OperatorAt task.entry.now pattern.entry.now operator result }
+        { abstract_operator(task, pattern, operator) },
+    )
 }
 
-// Writes the parts of all operators.
-fn fill_operators(parts: &mut [OperatorPart], task: &Task<'_>, pattern: &[u8])
-    requires few { length pattern.now ≤ 8 }
-    requires room { 8 * length task.now.operators.now ≤ length parts.old }
-    ensures { (o i : ℕ) → o < length task.now.operators.now → i < length pattern.now → PartOf (operator_of (model task.now) o) (slice_index pattern.now i) (slice_index (model task.now).domains (slice_index pattern.now i)) (slice_index_or parts.new (8 * o + i) untouched) }
-{
-    for operator in 0..task.operators.len() {
-        fill_operator(parts, task, pattern, operator);
-    }
-}
-
-impl<'t, 'a, 'p> AbstractTask<'t, 'a, 'p> {
+impl<'a> AbstractTask<'a> {
     // The task cut down to the pattern.
-    pub fn new(task: &'t Task<'a>, pattern: &'p [u8]) -> AbstractTask<'t, 'a, 'p>
+    pub fn new(task: &'a Task<'a>, pattern: &'a [u8]) -> AbstractTask<'a>
         requires pattern { IsPattern (model task.now) pattern.now }
         requires few { product (sizes (model task.now) pattern.now) ≤ 65536 }
         ensures task { model result.task.now ≡ model task.now }
         ensures pattern { result.pattern.now ≡ pattern.now }
-        ensures stands { Stands result }
     {
-        let mut domains = [0; 8];
-        fill_domains(&mut domains, task, pattern);
-        let mut weights = [0; 8];
-        fill_weights(&mut weights, task, pattern);
-        let mut goal = [None; 8];
-        fill_goal(&mut goal, task, pattern);
-        let mut parts = [OperatorPart {
-            required: None,
-            value: None,
-        }; 2048];
-        fill_operators(&mut parts, task, pattern);
         AbstractTask {
             task,
             pattern,
-            domains,
-            weights,
-            goal,
-            parts,
+            places: places_of(task, pattern),
+            operators: operators_of(task, pattern),
         }
     }
 }

@@ -6,4 +6,5 @@ mod cut;
 mod fill;
 pub mod part;
 pub mod pattern;
+pub mod place;
 pub mod steps;

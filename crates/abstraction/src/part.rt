@@ -4,3 +4,17 @@ pub struct OperatorPart {
     pub required: Option<u8>,
     pub value: Option<u8>,
 }
+
+impl OperatorPart {
+    // Nothing is required of the variable, and it keeps its value.
+    pub const UNTOUCHED: OperatorPart = OperatorPart {
+        required: None,
+        value: None,
+    };
+}
+
+// An operator cut down to a pattern: its part at each place.
+#[derive(Clone, Copy)]
+pub struct AbstractOperator {
+    pub parts: [OperatorPart; 8],
+}

@@ -3,46 +3,38 @@ ghost use Rattle.std.specs.Prelude.{◌≡◌, ℕ, ◌<◌, ◌≤◌, min, len
 ghost use Rattle.task.specs.Model.{model};
 ghost use Rattle.abstraction.specs.Projected.{sizes};
 ghost use Rattle.abstraction.specs.Ranks.{product};
-ghost use Rattle.abstraction.specs.Patterns.{Rises, IsPattern};
+ghost use Rattle.abstraction.specs.Patterns.{Listed, Rising, IsPattern};
 
 use task::task::Task;
 
-// Whether the variable at that place is above the one before it, if there is one.
-fn rises_at(pattern: &[u8], place: usize) -> bool
-    requires { place < length pattern.now }
-    ensures { MatchBool result (Rises pattern.now place) (Rises pattern.now place → ⊥) }
+// Whether each number of the row is that of a variable of the task.
+fn is_listed(task: &Task<'_>, pattern: &[u8]) -> bool
+    ensures { MatchBool result (Listed (model task.now) pattern.now) (Listed (model task.now) pattern.now → ⊥) }
 {
-    if place == 0 {
-        return true;
-    }
-    pattern[place - 1] < pattern[place]
+    pattern
+        .iter()
+        .all(|&variable| usize::from(variable) < task.variables.len())
+}
+
+// Whether each number of the row is above the one before it.
+fn rises(pattern: &[u8]) -> bool
+    ensures { MatchBool result (Rising pattern.now) (Rising pattern.now → ⊥) }
+{
+    pattern.is_sorted_by(|before, after| before < after)
 }
 
 // Whether the row is a pattern of the task: at most 8 of its variables, rising.
 pub fn is_pattern(task: &Task<'_>, pattern: &[u8]) -> bool
     ensures { MatchBool result (IsPattern (model task.now) pattern.now) (IsPattern (model task.now) pattern.now → ⊥) }
 {
-    if pattern.len() > 8 {
-        return false;
-    }
-    for place in 0..pattern.len() {
-        if pattern[place] as usize >= task.variables.len() {
-            return false;
-        }
-        if !rises_at(pattern, place) {
-            return false;
-        }
-    }
-    true
+    pattern.len() <= 8 && is_listed(task, pattern) && rises(pattern)
 }
 
 // How many abstract states a pattern has, cut at the largest number of 32 bits.
 pub fn rank_count(task: &Task<'_>, pattern: &[u8]) -> u32
     ensures { result ≡ min (product (sizes (model task.now) pattern.now)) 4294967295 }
 {
-    if pattern.len() == 0 {
-        return 1;
-    }
-    let domain = task.domain(pattern[0] as usize) as u32;
-    domain.saturating_mul(rank_count(task, &pattern[1..pattern.len()]))
+    pattern.iter().fold(1, |count: u32, &variable| {
+        count.saturating_mul(u32::from(task.domain(usize::from(variable))))
+    })
 }

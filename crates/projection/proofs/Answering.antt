@@ -19,18 +19,18 @@ weighed-lead ds pattern weights state (suc n) h w =
     (ap₂ (λ a b. a * b) (sym (abstraction-at pattern state n (omega arith))) (w n (omega arith) ∙ ap (λ z. product (drop z ds)) (add-one n)))
 
 -- what a projection that serves the task has of a state
-pub record Served (s : Projection) (T : Model) (state : List ℕ) : Type 0 where
-  pub ranked : rank_in s state ≡ rank (sizes T s.pattern.now) (abstraction s.pattern.now state)
-  pub inside : Inside s state
-  pub entry : get_or (distances s T) (rank (sizes T s.pattern.now) (abstraction s.pattern.now state)) 0 ≡ get_or s.table.now (rank_in s state) 0
+pub record Served (s : Projection) (T : Model) (weights state : List ℕ) : Type 0 where
+  pub ranked : rank_in s weights state ≡ rank (sizes T s.pattern.now) (abstraction s.pattern.now state)
+  pub inside : Inside s weights state
+  pub entry : get_or (distances s T) (rank (sizes T s.pattern.now) (abstraction s.pattern.now state)) 0 ≡ get_or s.table.now (rank_in s weights state) 0
 
-pub served : (s : Projection) (T : Model) (state : List ℕ) → IsState T state → Serves s T → Served s T state
-served s T state st v =
+pub served : (s : Projection) (T : Model) (weights state : List ℕ) → IsState T state → Serves s T weights → Served s T weights state
+served s T weights state st v =
     let P = s.pattern.now in
     let a = abstraction P state in
     let is = abstract-state T P state v.pattern st in
     let l = length-map P (λ u. get_or T.domains u 0) in
-    let ranked : rank_in s state ≡ rank (sizes T P) a = weighed-lead (sizes T P) P s.weights state (length P) (omega arith) v.weights ∙ sym (rank-lead (sizes T P) a (length P) is.long (sym l)) in
+    let ranked : rank_in s weights state ≡ rank (sizes T P) a = weighed-lead (sizes T P) P weights state (length P) (omega arith) v.weigh ∙ sym (rank-lead (sizes T P) a (length P) is.long (sym l)) in
     let low : rank (sizes T P) a < ranks s T = rank_lt (sizes T P) a (state-fit (projected T P) a is) in
     let room = v.table in
     record {
@@ -42,6 +42,6 @@ served s T state st v =
       entry = get_or-take (ranks s T) s.table.now (rank (sizes T P) a) 0 low ∙ ap (λ z. get_or s.table.now z 0) (sym ranked);
     }
 
-pub own-answer : (s : Projection) (T : Model) (state : List ℕ) → IsState T state → Serves s T
-    → distance (get_or s.table.now (rank_in s state) 0) ≡ at (projected T s.pattern.now) (distances s T) (abstraction s.pattern.now state)
-own-answer s T state st v = ap distance (sym (served s T state st v).entry)
+pub own-answer : (s : Projection) (T : Model) (weights state : List ℕ) → IsState T state → Serves s T weights
+    → distance (get_or s.table.now (rank_in s weights state) 0) ≡ at (projected T s.pattern.now) (distances s T) (abstraction s.pattern.now state)
+own-answer s T weights state st v = ap distance (sym (served s T weights state st v).entry)

@@ -5,7 +5,7 @@ use Rattle.abstraction.specs.Ranks.{rank}
 use Rattle.projection.specs.Distances.{IsTable, StepBetween, IsHeld}
 use Rattle.projection.specs.Dijkstra.{entry, Witness}
 use Rattle.projection.specs.Example.{sofa, by_sofa, by_door, SofaNumbers}
-use Rattle.projection.proofs.Distances.{Closed, Low, settled-table}
+use Rattle.projection.proofs.Settling.{Closed, Low, settled-table}
 use Rattle.projection.proofs.Saturation.{missing}
 
 -- a row of one value

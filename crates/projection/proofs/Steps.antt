@@ -4,7 +4,7 @@ use Rattle.std.proofs.lemmas.List.{drop_all}
 use Rattle.task.specs.Model.{Model, IsState, Applies, applied}
 use Rattle.abstraction.specs.declared.abstract_task.AbstractTask.{AbstractTask}
 use Rattle.abstraction.specs.Ranks.{product, rank}
-use Rattle.abstraction.specs.AbstractTasks.{abstract_of, Stands}
+use Rattle.abstraction.specs.AbstractTasks.{abstract_of}
 use Rattle.abstraction.proofs.Places.{places, applied-at, applied-state, applies-each, applies-at, applies-number}
 use Rattle.projection.specs.Dijkstra.{StepAt, StepsFrom, Preceding}
 
@@ -109,9 +109,9 @@ pub record Before (P : Model) (o r k : ℕ) : Type 0 where
   pub leads : rank P.domains (applied P from o) ≡ r
   pub ranked : rank P.domains from ≡ k
 
-pub preceding-step : (A : AbstractTask) (o : ℕ) (b : List ℕ) (k : ℕ) → Stands A → o < length (abstract_of A).operators → IsState (abstract_of A) b
+pub preceding-step : (A : AbstractTask) (o : ℕ) (b : List ℕ) (k : ℕ) → o < length (abstract_of A).operators → IsState (abstract_of A) b
     → Preceding A o b 0 0 k → Before (abstract_of A) o (rank (abstract_of A).domains b) k
-preceding-step A o b k st h is p =
+preceding-step A o b k h is p =
     let P = abstract_of A in
     let a = p.values in
     let n = places A in
@@ -119,25 +119,25 @@ preceding-step A o b k st h is p =
     let each : (j : ℕ) → j < length P.domains → StepAt A o j (get_or P.domains j 0) (get_or a j 0) (get_or b j 0) =
     λ j l. let e : 0 + j ≡ j = omega arith in subst (λ z. StepAt A o z (get_or P.domains j 0) (get_or a j 0) (get_or b j 0)) e (steps-each A o 0 P.domains a b p.steps j l) in
     let state : IsState P a = record { long = long.0; within = λ j l. (each j (let q = long.0 in omega arith)).within } in
-    let bs = applied-state A a o st h state in
+    let bs = applied-state A a o h state in
     let same : applied P a o ≡ b = ext_get_or 0 (applied P a o) b (bs.long ∙ sym is.long) (λ j l.
     let k' : j < length A.pattern.now = (let q = bs.long in omega arith) in
-    applied-at A a o j st h state k' ∙ (each j (omega arith)).leads) in
+    applied-at A a o j h state k' ∙ (each j (omega arith)).leads) in
     record {
       from = a;
       state = state;
-      applies = applies-each A a o st h (λ j l. (each j (omega arith)).admits);
+      applies = applies-each A a o h (λ j l. (each j (omega arith)).admits);
       leads = ap (rank P.domains) same;
       ranked = (let q = p.here in omega arith);
     }
 
-pub step-preceding : (A : AbstractTask) (s : List ℕ) (o : ℕ) (b : List ℕ) → Stands A → IsState (abstract_of A) s → Applies (abstract_of A) s o → applied (abstract_of A) s o ≡ b
+pub step-preceding : (A : AbstractTask) (s : List ℕ) (o : ℕ) (b : List ℕ) → IsState (abstract_of A) s → Applies (abstract_of A) s o → applied (abstract_of A) s o ≡ b
     → Preceding A o b 0 0 (rank (abstract_of A).domains s)
-step-preceding A s o b st is a e =
+step-preceding A s o b is a e =
     let P = abstract_of A in
     let h = applies-number P s o a in
     let n = places A in
-    let bs = applied-state A s o st h is in
+    let bs = applied-state A s o h is in
     let lb : length b ≡ length P.domains = sym (ap length e) ∙ bs.long in
     record {
       values = s;
@@ -146,8 +146,8 @@ step-preceding A s o b st is a e =
           let k : j < length A.pattern.now = omega arith in
           subst (λ i. StepAt A o i (get_or P.domains j 0) (get_or s j 0) (get_or b j 0)) z (record {
             within = is.within j (let q = is.long in omega arith);
-            admits = applies-at A s o j st k a;
-            leads = sym (applied-at A s o j st h is k) ∙ ap (λ x. get_or x j 0) e;
+            admits = applies-at A s o j k a;
+            leads = sym (applied-at A s o j h is k) ∙ ap (λ x. get_or x j 0) e;
           }));
       here = omega arith;
     }

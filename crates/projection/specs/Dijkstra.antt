@@ -1,34 +1,37 @@
 -- What holds of the table and the queue while the distances are computed, backwards from the goal states.
-use Rattle.std.specs.Prelude.{◌≡◌, ℕ, suc, ◌+◌, ◌*◌, ◌<◌, ◌≤◌, ◌⊎◌, List, [], ◌∷◌, length, drop, Some, None, sum, ◌≢◌, slice_index, slice_index_or}
+use Rattle.std.specs.Prelude.{◌≡◌, ℕ, suc, ◌+◌, ◌<◌, ◌≤◌, ◌⊎◌, List, [], ◌∷◌, length, drop, None, sum, ◌≢◌, slice_index}
 use Rattle.task.specs.Model.{Model, IsState, IsGoal, Admits, Applies, applied, Plan, Cost}
-use Rattle.queue.specs.declared.Queue.{Queue}
-use Rattle.queue.specs.declared.entries.RankEntry.{RankEntry}
-use Rattle.queue.specs.Content.{content, Takes, Sound}
-use Rattle.queue.specs.Entries.{rank_item, rank_no_later}
+use Rattle.queue.specs.Content.{content}
+use Rattle.queue.specs.Entries.{rank_item}
+use Rattle.projection.specs.declared.distances.Distances.{Distances}
 use Rattle.abstraction.specs.declared.abstract_task.AbstractTask.{AbstractTask}
 use Rattle.abstraction.specs.Ranks.{product, rank}
-use Rattle.abstraction.specs.Parts.{or_else, untouched}
+use Rattle.abstraction.specs.Parts.{or_else}
+use Rattle.abstraction.specs.Standing.{part_at}
 use Rattle.abstraction.specs.AbstractTasks.{abstract_of}
 
--- the queue holds ranks of the table only, and takes each of these
-pub record Open (table : List ℕ) (q : Queue RankEntry) : Type 0 where
-  pub sound : Sound rank_item rank_no_later q
-  pub takes : (k : ℕ) → k < length table → Takes q k
-  pub inside : (k : ℕ) (e : RankEntry) → content rank_item q k ≡ Some e → k < length table
+-- what bounds the work that is left: no lowering raises it, and each entry that is taken makes it less
+abbrev pub work : Distances → ℕ
+work D = sum D.table.now + D.queue.len
+
+-- D' is what D became: it is over the same memory, and no more work is left
+pub record Later (D D' : Distances) : Type 0 where
+  pub same : D'.table.ghost_name ≡ D.table.ghost_name
+  pub falls : work D' ≤ work D
 
 -- entries of ranks in C were lowered to d, and all that were lowered are queued
-pub record Relaxed (C : ℕ → Type 0) (d : ℕ) (t : List ℕ) (q : Queue RankEntry) (t' : List ℕ) (q' : Queue RankEntry) : Type 0 where
-  pub long : length t' ≡ length t
-  pub less : (k : ℕ) → slice_index t' k ≤ slice_index t k
-  pub quiet : (k : ℕ) → content rank_item q' k ≡ None → (content rank_item q k ≡ None) × (slice_index t' k ≡ slice_index t k)
-  pub cause : (k : ℕ) → (slice_index t' k ≡ slice_index t k) ⊎ (C k × (slice_index t' k ≡ d))
-  pub falls : sum t' + q'.len ≤ sum t + q.len
+pub record Relaxed (C : ℕ → Type 0) (d : ℕ) (D D' : Distances) : Type 0 where
+  pub long : length D'.table.now ≡ length D.table.now
+  pub less : (k : ℕ) → slice_index D'.table.now k ≤ slice_index D.table.now k
+  pub quiet : (k : ℕ) → content rank_item D'.queue k ≡ None → (content rank_item D.queue k ≡ None) × (slice_index D'.table.now k ≡ slice_index D.table.now k)
+  pub cause : (k : ℕ) → (slice_index D'.table.now k ≡ slice_index D.table.now k) ⊎ (C k × (slice_index D'.table.now k ≡ d))
+  pub later : Later D D'
 
 -- by operator o the place i, which has d values, goes from x to y
 pub record StepAt (A : AbstractTask) (o i d x y : ℕ) : Type 0 where
   pub within : x < d
-  pub admits : Admits x (slice_index_or A.parts (8 * o + i) untouched).required
-  pub leads : or_else (slice_index_or A.parts (8 * o + i) untouched).value x ≡ y
+  pub admits : Admits x (part_at A.operators o i).required
+  pub leads : or_else (part_at A.operators o i).value x ≡ y
 
 -- the same for each place from i on, which have ds values
 abbrev pub StepsFrom : AbstractTask → ℕ → ℕ → List ℕ → List ℕ → List ℕ → Type 0
@@ -60,14 +63,13 @@ pub record Witness (P : Model) (row : List ℕ) (k d : ℕ) : Type 0 where
 
 -- each entry is the cost of a plan, a goal state's is 0, and no step to a rank that is not queued can lower an entry, but for
 -- the steps of operator o to the rank k where Left o k
-pub record Running (P : Model) (row : List ℕ) (Left : ℕ → ℕ → Type 0) (t : List ℕ) (q : Queue RankEntry) : Type 0 where
-  pub «open» : Open t q
-  pub long : length t ≡ product P.domains
-  pub small : (k : ℕ) → slice_index t k ≤ 4294967295
-  pub goal : (s : List ℕ) → IsState P s → IsGoal P s → entry P t s ≡ 0
-  pub sound : (k : ℕ) → k < length t → (slice_index t k ≢ 4294967295) → Witness P row k (slice_index t k)
-  pub steps : (s : List ℕ) (o : ℕ) → IsState P s → Applies P s o → content rank_item q (rank P.domains (applied P s o)) ≡ None
-      → Left o (rank P.domains (applied P s o)) ⊎ (entry P t s ≤ entry P t (applied P s o) + slice_index row o)
+pub record Running (P : Model) (row : List ℕ) (Left : ℕ → ℕ → Type 0) (D : Distances) : Type 0 where
+  pub long : length D.table.now ≡ product P.domains
+  pub small : (k : ℕ) → slice_index D.table.now k ≤ 4294967295
+  pub goal : (s : List ℕ) → IsState P s → IsGoal P s → entry P D.table.now s ≡ 0
+  pub sound : (k : ℕ) → k < length D.table.now → (slice_index D.table.now k ≢ 4294967295) → Witness P row k (slice_index D.table.now k)
+  pub steps : (s : List ℕ) (o : ℕ) → IsState P s → Applies P s o → content rank_item D.queue (rank P.domains (applied P s o)) ≡ None
+      → Left o (rank P.domains (applied P s o)) ⊎ (entry P D.table.now s ≤ entry P D.table.now (applied P s o) + slice_index row o)
 
 -- no step is left out
 abbrev pub NoneLeft : ℕ → ℕ → Type 0

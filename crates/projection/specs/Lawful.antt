@@ -1,2 +1,3 @@
 pub mod Admissibility
+pub mod Open
 pub mod Projection

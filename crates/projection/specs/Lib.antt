@@ -1,4 +1,5 @@
 pub mod Distances
+pub mod Open
 pub mod Dijkstra
 pub mod Saturating
 pub mod Projection

@@ -40,5 +40,5 @@ pub(crate) fn compute(
     let distances = &mut table[0..count];
     fill_distances(distances, entries, places, &abstract_task, row);
     saturate(distances, &abstract_task, row);
-    abstract_task.weights
+    abstract_task.weights()
 }

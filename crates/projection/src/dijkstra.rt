@@ -1,78 +1,69 @@
 // The distances, by Dijkstra's algorithm backwards from the abstract goal states.
-ghost use Rattle.std.specs.Prelude.{◌≡◌, ℕ, ◌+◌, ◌<◌, ◌≤◌, List, length, None, sum};
+ghost use Rattle.std.specs.Prelude.{◌≡◌, ℕ, ◌<◌, ◌≤◌, List, length, None};
 ghost use Rattle.queue.specs.Content.{content};
 ghost use Rattle.queue.specs.Entries.{rank_item};
 ghost use Rattle.abstraction.specs.Ranks.{product};
-ghost use Rattle.abstraction.specs.AbstractTasks.{abstract_of, Stands};
-ghost use Rattle.projection.specs.Dijkstra.{Open, Running, NoneLeft, LeftFrom, Settled};
+ghost use Rattle.abstraction.specs.AbstractTasks.{abstract_of};
+ghost use Rattle.projection.specs.Dijkstra.{Running, NoneLeft, LeftFrom, Settled, Later};
 
-use super::lower::lower;
-use super::relax::relax;
+use super::distances::Distances;
+use super::relax::StepsTo;
 use abstraction::abstract_task::AbstractTask;
 use queue::Queue;
 use queue::entries::RankEntry;
 
-// Starts the distances: 0 for each abstract goal state, which is queued, and none for the others.
-fn seed(
-    table: &mut [u32],
-    queue: &mut Queue<'_, RankEntry>,
-    abstract_task: &AbstractTask<'_, '_, '_>,
-)
-    requires open { Open table.old queue.old }
-    requires none { (k : ℕ) → content rank_item queue.old k ≡ None }
-    requires stands { Stands abstract_task.now }
-    requires long { length table.old ≡ product (abstract_of abstract_task.now).domains }
-    ensures { (row : List ℕ) → Running (abstract_of abstract_task.now) row NoneLeft table.new queue.new }
-{
-    table.fill(u32::MAX);
-    let count = table.len() as u32;
-    for rank in 0..count {
+impl Distances<'_> {
+    // Starts the distances: 0 for each abstract goal state, which is queued, and none for the others.
+    fn seed(&mut self, abstract_task: &AbstractTask<'_>)
+        requires none { (k : ℕ) → content rank_item self.old.queue k ≡ None }
+        requires long { length self.old.table.now ≡ product (abstract_of abstract_task.now).domains }
+        ensures running { (row : List ℕ) → Running (abstract_of abstract_task.now) row NoneLeft self.new }
+        ensures same { self.new.table.ghost_name ≡ self.old.table.ghost_name }
+    {
+        self.table.fill(u32::MAX);
+        let count = self.table.len() as u32;
+        for rank in 0..count {
+            let digits = abstract_task.state_of(rank);
+            if abstract_task.is_goal(&digits[..abstract_task.pattern.len()]) {
+                self.lower(rank, 0);
+            }
+        }
+    }
+
+    // Lowers the entries of the ranks from which any operator leads to a rank.
+    fn expand(&mut self, abstract_task: &AbstractTask<'_>, row: &[u32], rank: u32)
+        requires running { Running (abstract_of abstract_task.now) row.now (LeftFrom rank 0) self.old }
+        requires row { length row.now ≡ length (abstract_of abstract_task.now).operators }
+        requires rank { rank < length self.old.table.now }
+        ensures running { Running (abstract_of abstract_task.now) row.now NoneLeft self.new }
+        ensures later { Later self.old self.new }
+    {
         let digits = abstract_task.state_of(rank);
-        if abstract_task.is_goal(&digits[0..abstract_task.pattern.len()]) {
-            lower(table, queue, rank, 0);
+        let state = &digits[..abstract_task.pattern.len()];
+        for (operator, &price) in row.iter().enumerate() {
+            if abstract_task.may_lead_to(operator, state) {
+                let distance = self.table[rank as usize].saturating_add(price);
+                let steps = StepsTo {
+                    abstract_task: &*abstract_task,
+                    operator,
+                    state,
+                    distance,
+                };
+                self.relax(&steps, 0, 0);
+            }
         }
     }
-}
 
-// Lowers the entries of the ranks from which any operator leads to a rank.
-fn expand(
-    table: &mut [u32],
-    queue: &mut Queue<'_, RankEntry>,
-    abstract_task: &AbstractTask<'_, '_, '_>,
-    row: &[u32],
-    rank: u32,
-)
-    requires running { Running (abstract_of abstract_task.now) row.now (LeftFrom rank 0) table.old queue.old }
-    requires stands { Stands abstract_task.now }
-    requires row { length row.now ≡ length (abstract_of abstract_task.now).operators }
-    requires rank { rank < length table.old }
-    ensures running { Running (abstract_of abstract_task.now) row.now NoneLeft table.new queue.new }
-    ensures falls { sum table.new + queue.new.len ≤ sum table.old + queue.old.len }
-{
-    let digits = abstract_task.state_of(rank);
-    let state = &digits[0..abstract_task.pattern.len()];
-    for operator in 0..row.len() {
-        if abstract_task.may_lead_to(operator, state) {
-            let distance = table[rank as usize].saturating_add(row[operator]);
-            relax(table, queue, abstract_task, operator, state, 0, 0, distance);
+    // Expands the rank of the least entry, until none is queued.
+    fn expand_all(&mut self, abstract_task: &AbstractTask<'_>, row: &[u32])
+        requires running { Running (abstract_of abstract_task.now) row.now NoneLeft self.old }
+        requires row { length row.now ≡ length (abstract_of abstract_task.now).operators }
+        ensures settled { Settled (abstract_of abstract_task.now) row.now self.new.table.now }
+        ensures same { self.new.table.ghost_name ≡ self.old.table.ghost_name }
+    {
+        while let Some(entry) = self.queue.take() {
+            self.expand(abstract_task, row, entry.rank);
         }
-    }
-}
-
-// Expands the rank of the least entry, until none is queued.
-fn expand_all(
-    table: &mut [u32],
-    queue: &mut Queue<'_, RankEntry>,
-    abstract_task: &AbstractTask<'_, '_, '_>,
-    row: &[u32],
-)
-    requires running { Running (abstract_of abstract_task.now) row.now NoneLeft table.old queue.old }
-    requires stands { Stands abstract_task.now }
-    requires row { length row.now ≡ length (abstract_of abstract_task.now).operators }
-    ensures { Settled (abstract_of abstract_task.now) row.now table.new }
-{
-    while let Some(entry) = queue.take() {
-        expand(table, queue, abstract_task, row, entry.rank);
     }
 }
 
@@ -81,17 +72,22 @@ pub(crate) fn fill_distances(
     table: &mut [u32],
     entries: &mut [RankEntry],
     places: &mut [u32],
-    abstract_task: &AbstractTask<'_, '_, '_>,
+    abstract_task: &AbstractTask<'_>,
     row: &[u32],
 )
-    requires stands { Stands abstract_task.now }
     requires row { length row.now ≡ length (abstract_of abstract_task.now).operators }
     requires long { length table.old ≡ product (abstract_of abstract_task.now).domains }
     requires entries { length table.old ≤ length entries.old }
     requires places { length table.old ≤ length places.old }
     ensures { Settled (abstract_of abstract_task.now) row.now table.new }
 {
-    let mut queue = Queue::new(entries, places);
-    seed(table, &mut queue, abstract_task);
-    expand_all(table, &mut queue, abstract_task, row);
+    let queue = Queue::new(entries, places);
+    let mut distances = Distances { table, queue };
+    distances.seed(abstract_task);
+    distances.expand_all(abstract_task, row);
+    // Taken apart, so that the table is known to be what they left.
+    let Distances {
+        table: _table,
+        queue: _queue,
+    } = distances;
 }

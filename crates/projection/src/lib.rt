@@ -3,7 +3,8 @@
 
 mod compute;
 mod dijkstra;
-mod lower;
+mod distances;
+mod entry;
 pub mod projection;
 mod rank;
 mod relax;

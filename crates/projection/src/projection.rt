@@ -1,10 +1,12 @@
 ghost use Rattle.std.specs.Prelude.{◌≡◌};
+ghost use Rattle.task.specs.Model.{model};
 ghost use Rattle.projection.specs.Distances.{OneMeaning};
 ghost use Rattle.projection.specs.Example.{SofaNumbers};
-ghost use Rattle.projection.specs.Projection.{Unset, Holds, Sets, Answers};
+ghost use Rattle.projection.specs.Projection.{Unset, Tests, projection};
 ghost use Rattle.projection.specs.Lawful.Projection.{projection-laws};
 
 use super::compute::compute;
+use super::entry::distance;
 use super::rank::rank_in;
 use abstraction::pattern::{is_pattern, rank_count};
 use estimator::estimator::Estimator;
@@ -14,25 +16,24 @@ use queue::entries::RankEntry;
 use tables::cause::Cause;
 use task::task::Task;
 
-// Answers the distances of the abstraction of a task to a pattern. Once it is set, the weights give a state's rank.
+// Answers the distances of the abstraction of a task to a pattern. Once it is set, it has the weights that give a state's rank.
 #[derive(Drop)]
-pub struct Projection<'p, 't, 'e, 'q> {
-    ready: bool,
-    pattern: &'p [u8],
-    weights: [u32; 8],
-    table: &'t mut [u32],
-    entries: &'e mut [RankEntry],
-    places: &'q mut [u32],
+pub struct Projection<'a> {
+    pattern: &'a [u8],
+    weights: Option<[u32; 8]>,
+    table: &'a mut [u32],
+    entries: &'a mut [RankEntry],
+    places: &'a mut [u32],
 }
 
-impl<'p, 't, 'e, 'q> Projection<'p, 't, 'e, 'q> {
+impl<'a> Projection<'a> {
     // Over a pattern, a lent table and lent queue memory, and unset.
     pub fn new(
-        pattern: &'p [u8],
-        table: &'t mut [u32],
-        entries: &'e mut [RankEntry],
-        places: &'q mut [u32],
-    ) -> Projection<'p, 't, 'e, 'q>
+        pattern: &'a [u8],
+        table: &'a mut [u32],
+        entries: &'a mut [RankEntry],
+        places: &'a mut [u32],
+    ) -> Projection<'a>
         ensures unset { Unset result }
         ensures pattern { result.pattern.now ≡ pattern.now }
         ensures table { result.table.now ≡ table.old }
@@ -42,44 +43,23 @@ impl<'p, 't, 'e, 'q> Projection<'p, 't, 'e, 'q> {
         ensures example { SofaNumbers }
     {
         Projection {
-            ready: false,
             pattern,
-            weights: [0; 8],
+            weights: None,
             table,
             entries,
             places,
         }
     }
-}
 
-impl<'p, 't, 'e, 'q> Estimator for Projection<'p, 't, 'e, 'q> {
-    const KIND: u8 = 2;
-
-    ghost unset = { Unset };
-
-    ghost holds = { Holds };
-
-    ghost sets = { Sets };
-
-    ghost answers = { Answers };
-
-    ghost laws = { projection-laws };
-
-    fn set(&mut self, task: &Task<'_>, row: &mut [u32], layer: u16) -> Result<(), SetFault> {
-        self.ready = false;
+    // Whether it can be set on the task with the row: what is wrong with the row, the pattern or the memory, if anything is.
+    fn test(&self, task: &Task<'_>, row: &[u32]) -> Result<(), Cause>
+        ensures { Tests self.now (model task.now) row.now result }
+    {
         if !is_offer(task, row) {
-            return Err(SetFault {
-                cause: Cause::Row,
-                kind: Self::KIND,
-                layer,
-            });
+            return Err(Cause::Row);
         }
         if !is_pattern(task, self.pattern) {
-            return Err(SetFault {
-                cause: Cause::Pattern,
-                kind: Self::KIND,
-                layer,
-            });
+            return Err(Cause::Pattern);
         }
         let count = rank_count(task, self.pattern) as usize;
         if count > 65536
@@ -87,43 +67,49 @@ impl<'p, 't, 'e, 'q> Estimator for Projection<'p, 't, 'e, 'q> {
             || self.entries.len() < count
             || self.places.len() < count
         {
-            return Err(SetFault {
-                cause: Cause::Table,
-                kind: Self::KIND,
-                layer,
-            });
+            return Err(Cause::Table);
         }
-        let Projection {
-            ready,
-            pattern,
-            weights,
-            table,
-            entries,
-            places,
-        } = self;
-        *weights = compute(table, entries, places, task, row, pattern);
-        *ready = true;
+        Ok(())
+    }
+}
+
+impl Estimator for Projection<'_> {
+    const KIND: u8 = 2;
+
+    ghost meaning = { projection };
+
+    ghost laws = { projection-laws };
+
+    fn set(&mut self, task: &Task<'_>, row: &mut [u32], layer: u16) -> Result<(), SetFault> {
+        self.weights = None;
+        if let Err(cause) = self.test(task, row) {
+            return Err(SetFault::new(cause, Self::KIND, layer));
+        }
+        let weights = compute(
+            self.table,
+            self.entries,
+            self.places,
+            task,
+            row,
+            self.pattern,
+        );
+        self.weights = Some(weights);
         Ok(())
     }
 
     fn estimate(&mut self, task: &Task<'_>, state: &[u8]) -> Option<u32> {
-        if !self.ready {
+        let Some(weights) = &self.weights else {
             return Some(0);
-        }
+        };
         if !task.is_state(state) {
             return Some(0);
         }
-        let Some(rank) = rank_in(self.pattern, &self.weights, state) else {
+        let Some(rank) = rank_in(self.pattern, weights, state) else {
             return Some(0);
         };
         if rank >= self.table.len() as u64 {
             return Some(0);
         }
-        let distance = self.table[rank as usize];
-        if distance == u32::MAX {
-            None
-        } else {
-            Some(distance)
-        }
+        distance(self.table[rank as usize])
     }
 }

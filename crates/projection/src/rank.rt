@@ -11,12 +11,9 @@ pub(crate) fn rank_in(pattern: &[u8], weights: &[u32], state: &[u8]) -> Option<u
         return None;
     }
     let mut rank: u64 = 0;
-    for place in 0..pattern.len() {
-        let variable = pattern[place] as usize;
-        if variable >= state.len() {
-            return None;
-        }
-        rank += state[variable] as u64 * weights[place] as u64;
+    for (&variable, &weight) in pattern.iter().zip(weights) {
+        let value = *state.get(usize::from(variable))?;
+        rank += u64::from(value) * u64::from(weight);
     }
     Some(rank)
 }

@@ -1,10 +1,13 @@
+ghost use Rattle.std.specs.Prelude.{ℕ, ◌≤◌};
+
 use estimator::estimator::Estimator;
 use projection::projection::Projection;
 use queue::entries::RankEntry;
 use tables::records::{Counts, Entry, Operator, Span, Variable};
 use task::task::Task;
 
-pub const NO_ENTRY: RankEntry = RankEntry {
+// An entry with something in it, which a projection has to overwrite.
+pub const STALE: RankEntry = RankEntry {
     distance: 7,
     rank: 7,
 };
@@ -48,6 +51,22 @@ pub fn effect(variable: u8, required: Option<u8>, value: u8) -> Entry {
     }
 }
 
+// The records of a task, of whose entries that many are goal facts.
+#[derive(Drop)]
+pub struct Records<const V: usize, const O: usize, const E: usize> {
+    pub variables: [Variable; V],
+    pub operators: [Operator; O],
+    pub entries: [Entry; E],
+    pub goals: usize,
+}
+
+impl<const V: usize, const O: usize, const E: usize> Records<V, O, E> {
+    // The task of all of them.
+    pub fn task(&self) -> Task<'_> {
+        task(&self.variables, &self.operators, &self.entries, self.goals)
+    }
+}
+
 // The task of all of the records, of whose entries that many are goal facts.
 pub fn task<'a>(
     variables: &'a [Variable],
@@ -66,8 +85,8 @@ pub fn task<'a>(
     task
 }
 
-// Sets a projection to the pattern, and asks it about the state: the number of the fault's cause, 0 where there is none, and
-// the answer.
+// Sets a projection to the pattern, and asks it about the state: the number of the fault's cause, if it is refused, and the
+// answer.
 pub fn set_and_ask(
     task: &Task<'_>,
     pattern: &[u8],
@@ -76,11 +95,25 @@ pub fn set_and_ask(
     places: &mut [u32],
     row: &mut [u32],
     state: &[u8],
-) -> (u8, Option<u32>) {
+) -> (Option<u8>, Option<u32>) {
     let mut projection = Projection::new(pattern, table, entries, places);
-    let cause = match projection.set(task, row, 1) {
-        Ok(()) => 0,
-        Err(fault) => fault.cause.number(),
-    };
-    (cause, projection.estimate(task, state))
+    let refused = projection
+        .set(task, row, 1)
+        .err()
+        .map(|fault| fault.cause.number());
+    (refused, projection.estimate(task, state))
+}
+
+// The same with queue memory of its own for that many ranks.
+pub fn ask<const RANKS: usize>(
+    task: &Task<'_>,
+    pattern: &[u8],
+    table: &mut [u32],
+    row: &mut [u32],
+    state: &[u8],
+) -> (Option<u8>, Option<u32>)
+    requires { RANKS ≤ 65536 }
+{
+    let (mut entries, mut places) = ([STALE; RANKS], [0; RANKS]);
+    set_and_ask(task, pattern, table, &mut entries, &mut places, row, state)
 }

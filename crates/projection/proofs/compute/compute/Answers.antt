@@ -10,7 +10,7 @@ use Rattle.abstraction.specs.Projected.{sizes, projected, cut_action}
 use Rattle.abstraction.specs.Ranks.{product}
 use Rattle.abstraction.specs.AbstractTasks.{abstract_of}
 use Rattle.projection.specs.Distances.{IsTable, IsHeld}
-use Rattle.projection.proofs.Distances.{Low, settled-table}
+use Rattle.projection.proofs.Settling.{Low, settled-table}
 use Rattle.projection.proofs.Running.{closed}
 use Rattle.projection.proofs.compute.compute.Goals as goal
 
@@ -34,7 +34,7 @@ fill_distances-requires c =
     let a = c.requires.table in
     let b = c.requires.entries in
     let d = c.requires.places in
-    record { stands = c.new-abstract_task.ensures.stands; row = o ∙ sym listed; long = omega arith; entries = omega arith; places = omega arith }
+    record { row = o ∙ sym listed; long = omega arith; entries = omega arith; places = omega arith }
 
 pub saturate-requires : goal.saturate-requires
 saturate-requires c =
@@ -43,7 +43,7 @@ saturate-requires c =
     let A = c.new-abstract_task.result in
     let is : abstract_of A ≡ projected T P = ap₂ projected c.new-abstract_task.ensures.task c.new-abstract_task.ensures.pattern in
     let listed : length (abstract_of A).operators ≡ length T.operators = ap (λ z. length z.operators) is ∙ length-map T.operators (cut_action P) in
-    record { stands = c.new-abstract_task.ensures.stands; row = c.requires.offer.long ∙ sym listed; settled = c.fill_distances.ensures }
+    record { row = c.requires.offer.long ∙ sym listed; settled = c.fill_distances.ensures }
 
 pub returns : goal.returns
 returns c =
@@ -61,8 +61,7 @@ returns c =
     let long : length written ≡ p = c.fill_distances.ensures.long ∙ size in
     let rest = post_of 0 n c.args.table.now in
     let front : take p (written ++ rest) ≡ written = take_at written rest p long in
-    let stands = c.new-abstract_task.ensures.stands in
-    let table : IsTable (abstract_of A) row written = settled-table (abstract_of A) row written (closed A stands) (low T row c.requires.offer) c.fill_distances.ensures in
+    let table : IsTable (abstract_of A) row written = settled-table (abstract_of A) row written (closed A) (low T row c.requires.offer) c.fill_distances.ensures in
     record {
       table = subst (IsTable (projected T P) row) (sym front) (subst (λ z. IsTable z row written) is table);
       rest = drop_at written rest p long ∙ ap (λ z. drop z c.args.table.now) w;
@@ -72,5 +71,5 @@ returns c =
       weights = λ i h.
           let pat = c.new-abstract_task.ensures.pattern in
           let pl = ap length pat in
-          stands.weights i (omega arith) ∙ ap (λ z. product (drop (i + 1) z.domains)) is;
+          c.weights.ensures.weights i (omega arith) ∙ ap (λ z. product (drop (i + 1) z.domains)) is;
     }

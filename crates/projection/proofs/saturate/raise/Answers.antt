@@ -3,34 +3,20 @@ use Rattle.std.proofs.Common.{◌≡◌, ℕ, ◌+◌, ◌<◌, ◌≤◌, ◌�
 use Rattle.std.proofs.lemmas.Bool.{cases_eq}
 use Rattle.task.specs.Model.{applied}
 use Rattle.abstraction.specs.AbstractTasks.{abstract_of}
-use Rattle.abstraction.proofs.Places.{operators-long}
 use Rattle.projection.specs.Saturating.{HeldBelow}
-use Rattle.projection.proofs.Distances.{state-rank}
-use Rattle.projection.proofs.Running.{closed, digits-state}
+use Rattle.projection.proofs.Settling.{state-rank}
+use Rattle.projection.proofs.Running.{closed}
 use Rattle.projection.proofs.Saturation.{held-skip, held_more}
 use Rattle.projection.proofs.saturate.raise.Goals as goal
 use Rattle.projection.proofs.saturate.raise.Goals.{in-Some, in_default}
-
-pub successor-requires : goal.successor-requires
-successor-requires c =
-    let A = c.args.abstract_task.now in
-    let n = operators-long A in
-    let w = digits-state (abstract_of A) c.args.rank (length A.pattern.now) c.state_of-digits.result c.state_of-digits.ensures in
-    record { stands = c.requires.stands; number = (let t = c.loop-operator-test.true in omega arith); state = w.state }
-
-pub bounds-held-operator-in-Some : goal.bounds-held-operator-in-Some
-bounds-held-operator-in-Some c = let n = operators-long c.args.abstract_task.now in let t = c.loop-operator-test.true in let k = c.loop-operator.auto.held in let r = c.requires.held in omega arith
-
-pub bounds-held-operator : goal.bounds-held-operator
-bounds-held-operator c = let n = operators-long c.args.abstract_task.now in let t = c.loop-operator-test.true in let k = c.loop-operator.auto.held in let r = c.requires.held in omega arith
 
 pub bounds-table-next : goal.bounds-table-next
 bounds-table-next c =
     let A = c.args.abstract_task.now in
     let P = abstract_of A in
-    let w = digits-state P c.args.rank (length A.pattern.now) c.state_of-digits.result c.state_of-digits.ensures in
+    let w = c.state_of-digits.ensures in
     let e = c.in-Some.ensures in
-    let l = state-rank P c.args.table.now (applied P _ c.loop-operator.operator) c.requires.long (closed A c.requires.stands _ c.loop-operator.operator w.state e.0) in
+    let l = state-rank P c.args.table.now (applied P _ c.loop-operator.operator) c.requires.long (closed A _ c.loop-operator.operator w.state e.0) in
     let q = e.1 in
     omega arith
 
@@ -45,16 +31,6 @@ more Q R xs i y n h below here above = (
   λ o l m. let ne : o ≢ i = omega arith in subst (R o) (sym (get_or-set_other xs i o y 0 ne)) (above o (omega arith) m),
 )
 
-stays : (Q R : ℕ → ℕ → Type 0) (xs : List ℕ) (i n : ℕ) → ((o : ℕ) → o < i → Q o (get_or xs o 0)) → Q i (get_or xs i 0) → ((o : ℕ) → i ≤ o → o < n → R o (get_or xs o 0))
-    → ((o : ℕ) → o < i + 1 → Q o (get_or xs o 0)) × ((o : ℕ) → i + 1 ≤ o → o < n → R o (get_or xs o 0))
-stays Q R xs i n below here above = (
-  (λ o l. ⊎_elim
-      (λ (e : o ≡ i). subst (λ z. Q z (get_or xs z 0)) (sym e) here)
-      (λ (ne : o ≡ i → ⊥). below o (omega arith))
-      (cases_eq o i)),
-  λ o l m. above o (omega arith) m,
-)
-
 pub loop-operator-preserved : goal.loop-operator-preserved
 loop-operator-preserved c =
     let A = c.args.abstract_task.now in
@@ -64,7 +40,6 @@ loop-operator-preserved c =
     let i = c.loop-operator.operator in
     let xs = c.loop-operator.held in
     let n = length P.operators in
-    let listed = operators-long A in
     let test = c.loop-operator-test.true in
     let kept = c.loop-operator.auto.held in
     let room = c.requires.held in
@@ -72,7 +47,7 @@ loop-operator-preserved c =
     let lt : i < length xs = omega arith in
     let Q : ℕ → ℕ → Type 0 = λ o h. HeldBelow P t o (r + 1) h in
     let R : ℕ → ℕ → Type 0 = λ o h. HeldBelow P t o r h in
-    let w = digits-state P r (length A.pattern.now) c.state_of-digits.result c.state_of-digits.ensures in
+    let w = c.state_of-digits.ensures in
     let old = c.loop-operator.invariant.1 i (omega arith) number in
     let above : (o : ℕ) → i ≤ o → o < n → R o (get_or xs o 0) = c.loop-operator.invariant.1 in
     elim c.match-successor.branch [
@@ -80,8 +55,8 @@ loop-operator-preserved c =
           (more Q R xs i x.larger.result n lt c.loop-operator.invariant.0
           (held_more P t i r x.in-Some.next (get_or xs i 0) x.larger.result _ w x.in-Some.ensures.0 x.in-Some.ensures.1 x.larger.ensures old) above)
       | in_default x ↦ subst (λ z. ((o : ℕ) → o < i + 1 → Q o (get_or z o 0)) × ((o : ℕ) → i + 1 ≤ o → o < n → R o (get_or z o 0))) (sym x.held-is)
-          (stays Q R xs i n c.loop-operator.invariant.0 (held-skip P t i r (get_or xs i 0) _ w x.in_default.ensures old) above)
+          (more Q R xs i (get_or xs i 0) n lt c.loop-operator.invariant.0 (held-skip P t i r (get_or xs i 0) _ w x.in_default.ensures old) above)
     ]
 
 pub returns : goal.returns
-returns c = λ o h. c.loop-operator.invariant.0 o (let n = operators-long c.args.abstract_task.now in let t = c.loop-operator-test.false in omega arith)
+returns c = λ o h. c.loop-operator.invariant.0 o (let t = c.loop-operator-test.false in let k = c.loop-operator.auto.held in let r = c.requires.held in omega arith)

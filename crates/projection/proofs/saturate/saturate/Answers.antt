@@ -2,19 +2,12 @@
 use Rattle.std.proofs.Common.{◌≡◌, ◌-◌, ◌<◌, ◌≤◌, ◌≢◌, length, get_or, set, sym, ◌∙◌, subst, ⊎_elim, arith, get_or-set_other, get_or-set_same}
 use Rattle.std.proofs.lemmas.Bool.{cases_eq}
 use Rattle.abstraction.specs.AbstractTasks.{abstract_of}
-use Rattle.abstraction.proofs.Places.{operators-low}
 use Rattle.projection.specs.Distances.{IsHeld}
 use Rattle.projection.proofs.Saturation.{held_low}
 use Rattle.projection.proofs.saturate.saturate.Goals as goal
 
-pub fill_held-requires : goal.fill_held-requires
-fill_held-requires c = record { stands = c.requires.stands; held = operators-low c.args.abstract_task.now; long = c.requires.settled.long }
-
-pub bounds-held-operator : goal.bounds-held-operator
-bounds-held-operator c = let l = operators-low c.args.abstract_task.now in let r = c.requires.row in let t = c.loop-operator-test.true in omega arith
-
-pub overflow_sub-row : goal.overflow_sub-row
-overflow_sub-row c =
+pub overflow_sub-price : goal.overflow_sub-price
+overflow_sub-price c =
     let r = c.requires.row in
     let t = c.loop-operator-test.true in
     let o = c.loop-operator.operator in

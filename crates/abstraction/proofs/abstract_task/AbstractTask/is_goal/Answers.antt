@@ -1,25 +1,30 @@
--- Each place passed has the goal's value.
-use Rattle.std.proofs.Common.{get_or, None, MatchBool, subst, arith, below_more}
-use Rattle.task.specs.Model.{Admits}
+-- Each place has the goal's value.
+use Rattle.std.proofs.Common.{ℕ, ◌<◌, length, MatchBool, true, false, subst, arith, rules}
+use borrow.Author.Tests.{tests}
+use Rattle.std.specs.List.{AllWithin, HoldsAt, zip}
+use Rattle.std.proofs.lemmas.Iterator.{YieldsList-from_slice, YieldsList-from_zip, cases_from_all}
+use Rattle.std.proofs.lemmas.Slice.Zip.{length-zip, get_or-zip}
+use Rattle.task.specs.Model.{Admits, IsGoal}
+use Rattle.abstraction.specs.declared.place.Place.{Place}
+use Rattle.abstraction.specs.Standing.{unused}
+use Rattle.abstraction.specs.AbstractTasks.{abstract_of}
 use Rattle.abstraction.proofs.Places.{places, goal-each, goal-at}
 use Rattle.abstraction.proofs.abstract_task.AbstractTask.is_goal.Goals as goal
 
-pub bounds-state-place : goal.bounds-state-place
-bounds-state-place c = let n = places c.args.self.now in let l = c.requires.state.long in omega arith
-
-pub returns-then-not-admits : goal.returns-then-not-admits
-returns-then-not-admits c = λ g.
-    let i = c.loop-place.place in
-    let A = c.args.self.now in
-    let Q = Admits (get_or c.args.state.now i 0) (get_or A.goal i None) in
-    subst (λ z. MatchBool z Q (Q → ⊥)) c.if-not-admits.true c.admits.ensures (goal-at A c.args.state.now i c.requires.stands (omega arith) g)
-
-pub loop-place-preserved : goal.loop-place-preserved
-loop-place-preserved c =
-    let i = c.loop-place.place in
-    let A = c.args.self.now in
-    let Q = Admits (get_or c.args.state.now i 0) (get_or A.goal i None) in
-    below_more (λ k. Admits (get_or c.args.state.now k 0) (get_or A.goal k None)) i c.loop-place.invariant (subst (λ z. MatchBool z Q (Q → ⊥)) c.if-not-admits.false c.admits.ensures)
-
 pub returns : goal.returns
-returns c = goal-each c.args.self.now c.args.state.now c.requires.stands (λ i h. c.loop-place.invariant i (omega arith))
+returns c =
+    let A = c.args.self.now in
+    let s = c.args.state.now in
+    let pairs = zip A.places s in
+    let n = places A in
+    let l = c.requires.long in
+    let few = A.stands.pattern.few in
+    let eight = A.stands.long_places in
+    let long = length-zip A.places s in
+    let Yes : Place × ℕ → Type 0 = λ p. Admits p.1 p.0.goal in
+    let No : Place × ℕ → Type 0 = λ p. Admits p.1 p.0.goal → ⊥ in
+    let ran = cases_from_all c.all.new.self _ c.all.result Yes No c.all.ensures.ran (YieldsList-from_zip (YieldsList-from_slice A.places cc) (YieldsList-from_slice s cc)) (λ x q k. search (rules, tests)) (λ x q k. search (rules, tests)) in
+    elim c.all.result as (λ b. MatchBool b (AllWithin Yes pairs 0 (length pairs)) ((k : ℕ) × (k < length pairs) × HoldsAt No pairs k) → MatchBool b (IsGoal (abstract_of A) s) (IsGoal (abstract_of A) s → ⊥)) [
+      | true ↦ λ h. goal-each A s (λ i m. subst Yes (get_or-zip A.places s i (unused, 0) (omega arith) (omega arith)) (h i (unused, 0) (omega arith) (omega arith)))
+      | false ↦ λ h g. subst No (get_or-zip A.places s h.0 (unused, 0) (let k = h.1 in omega arith) (let k = h.1 in omega arith)) (h.2 (unused, 0)) (goal-at A s h.0 (let k = h.1 in omega arith) g)
+    ] ran

@@ -4,9 +4,9 @@ use Rattle.abstraction.specs.AbstractTasks.{abstract_of}
 use Rattle.abstraction.proofs.Ranks.{lead}
 use Rattle.abstraction.proofs.abstract_task.AbstractTask.state_of.Given as goal
 
-abbrev pub invariant-loop-place : goal.invariant-loop-place
-invariant-loop-place l =
+abbrev pub invariant-loop-index : goal.invariant-loop-index
+invariant-loop-index l =
     (length l.state ≡ 8)
-    × (lead (abstract_of l.self).domains l.state l.place + l.rest ≡ l.rank)
-    × (l.rest < product (drop l.place (abstract_of l.self).domains))
-    × ((i : ℕ) → i < l.place → get_or l.state i 0 < get_or (abstract_of l.self).domains i 0)
+    × (lead (abstract_of l.self).domains l.state l.index + l.rest ≡ l.rank)
+    × (l.rest < product (drop l.index (abstract_of l.self).domains))
+    × ((i : ℕ) → i < l.index → get_or l.state i 0 < get_or (abstract_of l.self).domains i 0)

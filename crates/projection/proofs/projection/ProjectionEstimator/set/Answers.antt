@@ -1,4 +1,4 @@
--- The tests are those of the rules in their order, and past them all is computed.
+-- Past its test all is computed.
 use Rattle.std.proofs.Common.{◌≡◌, length, refl, arith}
 use Rattle.task.proofs.Actions.{task-well-formed}
 use Rattle.projection.specs.Projection.{takes}
@@ -6,21 +6,18 @@ use Rattle.projection.proofs.projection.ProjectionEstimator.set.Goals as goal
 
 pub returns : goal.returns
 returns c =
-    let t : length c.compute.new.table ≡ length c.args.self.now.table.now = c.compute.auto.table in
-    let e : length c.compute.new.entries ≡ length c.args.self.now.entries.now = c.compute.auto.entries in
-    let p : length c.compute.new.places ≡ length c.args.self.now.places.now = c.compute.auto.places in
-    let n = c.rank_count-count.ensures in
-    let a = c.if-count-gt65536.false in
-    let x = c.if-self-count.false in
-    let y = c.if-self-count-2.false in
-    let z = c.if-self-count-3.false in
-    takes c.if-not-is_offer.ensures.cases c.if-not-is_pattern.ensures (record { few = omega arith; table = omega arith; entries = omega arith; places = omega arith }) refl
+    let t : length c.compute-weights.new.table ≡ length c.args.self.now.table.now = c.compute-weights.auto.table in
+    let fit = c.in_default.ensures in
+    let room = fit.2 in
+    let ranks = room.table in
+    takes fit.0 fit.1 (record { few = room.few; table = room.table; entries = room.entries; places = room.places }) refl
     (record {
+      weights = c.compute-weights.result;
       ready = refl;
       formed = task-well-formed c.args.task.now;
-      kept = record { pattern = refl; rest = c.compute.ensures.rest; table = t; entries = e; places = p };
-      serves = record { pattern = c.if-not-is_pattern.ensures; table = omega arith; weights = c.compute.ensures.weights };
-      table = c.compute.ensures.table;
-      long = c.compute.auto.row;
-      leaves = c.compute.ensures.held;
+      kept = record { pattern = refl; rest = c.compute-weights.ensures.rest; table = t; entries = c.compute-weights.auto.entries; places = c.compute-weights.auto.places };
+      serves = record { pattern = fit.1; table = omega arith; weigh = c.compute-weights.ensures.weights };
+      table = c.compute-weights.ensures.table;
+      long = c.compute-weights.auto.row;
+      leaves = c.compute-weights.ensures.held;
     })

@@ -1,6 +1,0 @@
-use Rattle.abstraction.specs.AbstractTasks.{abstract_of}
-use Rattle.projection.proofs.Running.{Seeded}
-use Rattle.projection.proofs.dijkstra.seed.Given as goal
-
-abbrev pub invariant-loop-rank : goal.invariant-loop-rank
-invariant-loop-rank l = Seeded (abstract_of l.abstract_task) l.rank l.table l.queue
