@@ -4,15 +4,17 @@ use Rattle.std.proofs.lemmas.Map.{update_here, update_apart}
 use Rattle.std.proofs.lemmas.Bool.Decides.{nat_tests}
 use Rattle.plain.specs.Plain as plain
 use Rattle.plain.specs.Plain.{NoLater, NoLater.by_f, NoLater.by_estimate, NoLater.by_node}
+use lib.Seq.{get_or-append_seam}
 use Rattle.plain.proofs.Splits.{lt-or-le, same_or_not}
-use Rattle.queue.specs.Content.{content, Sound, Rows, Changed, First, Taken}
+use Rattle.queue.proofs.First.{some-none}
+use Rattle.queue.specs.Content.{content, Rows, Changed, First, Taken}
 use Rattle.queue.specs.Entries.{then_by, search_item, search_no_later}
 use Rattle.memory.specs.declared.node.Node.{Node}
 use Rattle.queue.specs.declared.entries.SearchEntry.{SearchEntry}
 use Rattle.memory.specs.declared.memory.Memory.{Memory}
 use Rattle.memory.specs.Index.{Indexed, Vacant}
-use Rattle.memory.specs.Rows.{rows, zero_node, queued_of, state_at, record_at, node_in, nodes_of, EntryFor, QueueAgrees, RoomFor, Consistent, Untouched, queued_with, TakenFirst}
-use Rattle.memory.proofs.Tables.{rows-set, rows-add, rows_upto, slice_is, slice-same}
+use Rattle.memory.specs.Rows.{rows, zero_node, queued_of, state_at, record_at, node_in, nodes_of, EntryFor, QueueAgrees, RoomFor, Consistent, Untouched, TakenFirst}
+use Rattle.memory.proofs.Tables.{rows-set, rows-add, rows_upto, slice_is, slice-same, set_last}
 use Rattle.memory.proofs.Words.{indexed-add}
 use Rattle.memory.proofs.Held.{count_of, node-is, state-is, g-is}
 
@@ -22,12 +24,6 @@ node-same m m' k a b c = λ j. plain.new_node (a j) (b j).g (b j).parent (b j).o
 none_of : (o : Option SearchEntry) → ((e : SearchEntry) → o ≡ Some e → ⊥) → o ≡ None
 none_of None h = refl
 none_of (Some e) h = absurd (h e refl)
-
-pub some-none : {X : Type 0} (o : Option X) (x : X) → o ≡ Some x → o ≡ None → ⊥
-some-none o x p q = let z : ◌≡◌ {A = ℕ} 0 1 = cc in omega arith
-
-same_some : {X : Type 0} (o : Option X) (x y : X) → o ≡ Some x → o ≡ Some y → x ≡ y
-same_some o x y p q = cc
 
 -- what stays of the memory when its state rows and its index do
 pub record Kept (m m' : Memory) : Type 0 where
@@ -83,8 +79,8 @@ module _ (m m' : Memory) (consistent : Consistent m) (kept : Kept m m') (long : 
       subst (λ z. Indexed m'.index.now (state_at m') z) (sym kept.held)
       (subst (λ z. Indexed z (state_at m') m.held) (sym kept.index) (subst (λ z. Indexed m.index.now z m.held) (sym e) consistent.indexed))
 
-  pub kept_fine : Sound search_item search_no_later m'.queue → QueueAgrees m' → Consistent m'
-  kept_fine s t = record { lent = kept-roomy; within = omega (arith, consistent.within, kept.held, kept.capacity); indexed = kept-indexed; sound = s; agrees = t }
+  pub kept_fine : QueueAgrees m' → Consistent m'
+  kept_fine t = record { lent = kept-roomy; within = omega (arith, consistent.within, kept.held, kept.capacity); indexed = kept-indexed; agrees = t }
 
   -- the node k is changed, and no other
   pub kept-nodes : (k : ℕ) (n : plain.Node) → k < m.held → node_in m' k ≡ n → ((j : ℕ) → j ≢ k → (record_at m' j ≡ record_at m j) × (content search_item m'.queue j ≡ content search_item m.queue j)) →
@@ -175,11 +171,11 @@ none-queued m consistent n k h w = let y = queued-entry m consistent k h w in so
 
 -- one node's record and its entry in the open list are changed
 pub change-done : (m m' : Memory) (k : ℕ) (r : Node) (w : Option SearchEntry) → Consistent m → Kept m m' → length m'.nodes.now ≡ length m.nodes.now → Rows m.queue m'.queue →
-    Sound search_item search_no_later m'.queue → k < m.held → record_at m' k ≡ r → ((j : ℕ) → j ≢ k → record_at m' j ≡ record_at m j) → Changed search_item m.queue m'.queue k w →
+    k < m.held → record_at m' k ≡ r → ((j : ℕ) → j ≢ k → record_at m' j ≡ record_at m j) → Changed search_item m.queue m'.queue k w →
     ((e : SearchEntry) → w ≡ Some e → EntryFor m' k e) →
     Consistent m' × (nodes_of m' ≡ set (nodes_of m) k (plain.new_node (plain.node (nodes_of m) k).state r.g r.parent r.operator (queued_of w)))
-change-done m m' k r w consistent kept long qs sound l rec others ch new = (
-  kept_fine m m' consistent kept long qs sound (agrees-change m m' k w kept others ch consistent.agrees new),
+change-done m m' k r w consistent kept long qs l rec others ch new = (
+  kept_fine m m' consistent kept long qs (agrees-change m m' k w kept others ch consistent.agrees new),
   kept-nodes m m' consistent kept long qs k _ l is (λ j d. (others j d, apart m m' k w kept others ch j d)),
 )
   where
@@ -197,7 +193,6 @@ pub record Improved (m m' : Memory) (k : ℕ) (r : Node) (w : Option SearchEntry
   pub kept : Kept m m'
   pub nodes : m'.nodes.now ≡ set m.nodes.now k r
   pub rows : Rows m.queue m'.queue
-  pub sound : Sound search_item search_no_later m'.queue
   pub changed : Changed search_item m.queue m'.queue k w
   pub entry : (e : SearchEntry) → w ≡ Some e → (e.f ≡ r.g + e.estimate) × (e.node ≡ k)
 
@@ -207,38 +202,36 @@ improve-done m m' k r w consistent l i =
     let long : length m'.nodes.now ≡ length m.nodes.now = ap length i.nodes ∙ length-set m.nodes.now k r in
     let here : record_at m' k ≡ r = ap (λ z. get_or z k zero_node) i.nodes ∙ get_or-set_same m.nodes.now k r zero_node (omega (arith, consistent.within, consistent.lent.nodes)) in
     let others : (j : ℕ) → j ≢ k → record_at m' j ≡ record_at m j = λ j d. ap (λ z. get_or z j zero_node) i.nodes ∙ get_or-set_other m.nodes.now k j r zero_node d in
-    let d = change-done m m' k r w consistent i.kept long i.rows i.sound l here others i.changed
+    let d = change-done m m' k r w consistent i.kept long i.rows l here others i.changed
     (λ e q. record { inside = omega (arith, i.kept.held); sum = (i.entry e q).0 ∙ ap (λ z. z.g + e.estimate) (sym here); node = (i.entry e q).1 }) in
     (d.0, kept-untouched m m' i.kept long (λ j z. others j (omega arith)), d.1)
 
--- a record stays, and its entry in the open list changes
-pub queued-done : (m m' : Memory) (k : ℕ) (w : Option SearchEntry) → Consistent m → Kept m m' → m'.nodes.now ≡ m.nodes.now → Rows m.queue m'.queue →
-    Sound search_item search_no_later m'.queue → k < m.held → Changed search_item m.queue m'.queue k w → ((e : SearchEntry) → w ≡ Some e → EntryFor m k e) →
-    Consistent m' × (nodes_of m' ≡ set (nodes_of m) k (queued_with (plain.node (nodes_of m) k) (queued_of w)))
-queued-done m m' k w consistent kept en qs sound l ch new =
+-- a record stays, and its entry in the open list goes
+dequeued-done : (m m' : Memory) (k : ℕ) → Consistent m → Kept m m' → m'.nodes.now ≡ m.nodes.now → Rows m.queue m'.queue → k < m.held → Changed search_item m.queue m'.queue k None →
+    Consistent m' × (nodes_of m' ≡ set (nodes_of m) k (plain.dequeued (plain.node (nodes_of m) k)))
+dequeued-done m m' k consistent kept en qs l ch =
     let recs : (j : ℕ) → record_at m' j ≡ record_at m j = λ j. ap (λ z. get_or z j zero_node) en in
-    let d = change-done m m' k (record_at m k) w consistent kept (ap length en) qs sound l (recs k) (λ j _. recs j) ch
-    (λ e q. let o = new e q in record { inside = omega (arith, o.inside, kept.held); sum = omega (arith, o.sum, ap (λ z. z.g) (recs k)); node = o.node }) in
-    (d.0, d.1 ∙ ap (λ (z : plain.Node). set (nodes_of m) k (plain.new_node (plain.node (nodes_of m) k).state z.g z.parent z.operator (queued_of w))) (sym (node-is m k l)))
+    let d = change-done m m' k (record_at m k) None consistent kept (ap length en) qs l (recs k) (λ j _. recs j) ch (λ e q. absurd (some-none None e q refl)) in
+    (d.0, d.1 ∙ ap (λ (z : plain.Node). set (nodes_of m) k (plain.new_node (plain.node (nodes_of m) k).state z.g z.parent z.operator None)) (sym (node-is m k l)))
 
-pub kept-all : (m m' : Memory) → Consistent m → Kept m m' → m'.nodes.now ≡ m.nodes.now → Rows m.queue m'.queue → Sound search_item search_no_later m'.queue → ((k : ℕ) → content search_item m'.queue k ≡ content search_item m.queue k) →
+pub kept-all : (m m' : Memory) → Consistent m → Kept m m' → m'.nodes.now ≡ m.nodes.now → Rows m.queue m'.queue → ((k : ℕ) → content search_item m'.queue k ≡ content search_item m.queue k) →
     Consistent m' × (nodes_of m' ≡ nodes_of m)
-kept-all m m' consistent kept en qs sound same =
+kept-all m m' consistent kept en qs same =
     let recs : (j : ℕ) → record_at m' j ≡ record_at m j = λ j. ap (λ z. get_or z j zero_node) en in (
-      kept_fine m m' consistent kept (ap length en) qs sound (λ k e q.
+      kept_fine m m' consistent kept (ap length en) qs (λ k e q.
           let o = consistent.agrees k e (sym (same k) ∙ q) in
           record { inside = omega (arith, o.inside, kept.held); sum = omega (arith, o.sum, ap (λ z. z.g) (recs k)); node = o.node }),
       subst (λ z. rows (node_in m') z ≡ nodes_of m) (sym kept.held) (rows_upto (node_in m) (node_in m') m.held (λ k l. node-same m m' k (kept-state m m' kept k) (recs k) (same k))),
     )
 
 -- what the least entry of the open list tells, and what is left without it
-pub taken-done : (m m' : Memory) (o : Option SearchEntry) → Consistent m → Kept m m' → m'.nodes.now ≡ m.nodes.now → Rows m.queue m'.queue → Sound search_item search_no_later m'.queue →
+pub taken-done : (m m' : Memory) (o : Option SearchEntry) → Consistent m → Kept m m' → m'.nodes.now ≡ m.nodes.now → Rows m.queue m'.queue →
     Taken search_item search_no_later m.queue m'.queue o →
     Consistent m' × MatchOption o (((k h : ℕ) → plain.Queued (nodes_of m) k h → ⊥) × (nodes_of m' ≡ nodes_of m)) (λ e. TakenFirst (nodes_of m) e (nodes_of m'))
-taken-done m m' None consistent kept en qs sound h = let d = kept-all m m' consistent kept en qs sound (λ k. ap (λ q. content search_item q k) h.same) in (d.0, (none-queued m consistent h.empty, d.1))
-taken-done m m' (Some e) consistent kept en qs sound h =
+taken-done m m' None consistent kept en qs h = let d = kept-all m m' consistent kept en qs (λ k. ap (λ q. content search_item q k) h.same) in (d.0, (none-queued m consistent h.empty, d.1))
+taken-done m m' (Some e) consistent kept en qs h =
     let o = consistent.agrees e.node e h.first.here in
-    let d = queued-done m m' e.node None consistent kept en qs sound o.inside h.changed (λ y q. absurd (some-none None y q refl)) in (
+    let d = dequeued-done m m' e.node consistent kept en qs o.inside h.changed in (
       d.0,
       record {
         inside = omega (arith, count_of m, o.inside);
@@ -248,12 +241,12 @@ taken-done m m' (Some e) consistent kept en qs sound h =
       },
     )
 
--- a node is added
-pub record Added (m m' : Memory) (at : ℕ) (s : List ℕ) (n : Node) : Type 0 where
+-- a state is added, with its word of the index; its record may be any
+pub record Added (m m' : Memory) (at : ℕ) (s : List ℕ) : Type 0 where
   pub variables : m'.variables ≡ m.variables
   pub capacity : m'.capacity ≡ m.capacity
   pub held : m'.held ≡ m.held + 1
-  pub nodes : m'.nodes.now ≡ set m.nodes.now m.held n
+  pub nodes : m'.nodes.now ≡ m.nodes.now
   pub index : m'.index.now ≡ set m.index.now at (m.held + 1)
   pub queue : m'.queue ≡ m.queue
   pub long : length m'.states.now ≡ length m.states.now
@@ -261,7 +254,7 @@ pub record Added (m m' : Memory) (at : ℕ) (s : List ℕ) (n : Node) : Type 0 w
   pub before : (j : ℕ) → j < m.held * m.variables → get_or m'.states.now j 0 ≡ get_or m.states.now j 0
   pub beyond : (j : ℕ) → m.held * m.variables + length s ≤ j → get_or m'.states.now j 0 ≡ get_or m.states.now j 0
 
-module _ (m m' : Memory) (at : ℕ) (s : List ℕ) (n : Node) (consistent : Consistent m) (l : m.held < m.capacity) (width : length s ≡ m.variables) (vacant : Vacant m.index.now s at) (a : Added m m' at s n) where
+module _ (m m' : Memory) (at : ℕ) (s : List ℕ) (consistent : Consistent m) (l : m.held < m.capacity) (width : length s ≡ m.variables) (vacant : Vacant m.index.now s at) (a : Added m m' at s) where
   cut : (k : ℕ) → state_at m' k ≡ take m.variables (drop (k * m.variables) m'.states.now)
   cut k = λ j. take (a.variables j) (drop (k * a.variables j) m'.states.now)
 
@@ -276,11 +269,8 @@ module _ (m m' : Memory) (at : ℕ) (s : List ℕ) (n : Node) (consistent : Cons
   new-state : state_at m' m.held ≡ s
   new-state = cut m.held ∙ slice_is m.variables (m.held * m.variables) m'.states.now s (omega (arith, fits m.held l, a.long)) width (λ j q. a.inside j (omega arith))
 
-  old-record : (k : ℕ) → k ≢ m.held → record_at m' k ≡ record_at m k
-  old-record k d = ap (λ z. get_or z k zero_node) a.nodes ∙ get_or-set_other m.nodes.now m.held k n zero_node d
-
-  new-record : record_at m' m.held ≡ n
-  new-record = ap (λ z. get_or z m.held zero_node) a.nodes ∙ get_or-set_same m.nodes.now m.held n zero_node (omega (arith, consistent.lent.nodes))
+  same-record : (k : ℕ) → record_at m' k ≡ record_at m k
+  same-record k = ap (λ z. get_or z k zero_node) a.nodes
 
   queue-same : (k : ℕ) → content search_item m'.queue k ≡ content search_item m.queue k
   queue-same k = ap (λ q. content search_item q k) a.queue
@@ -293,12 +283,15 @@ module _ (m m' : Memory) (at : ℕ) (s : List ℕ) (n : Node) (consistent : Cons
       subst (λ z. Indexed m'.index.now (state_at m') z) (sym a.held) (subst (λ z. Indexed z (state_at m') (m.held + 1)) (sym a.index)
       (indexed-add m.index.now (state_at m) (state_at m') m.held at consistent.indexed (subst (λ z. Vacant m.index.now z at) (sym new-state) vacant) old-state))
 
-  pub add_done : Consistent m' × (nodes_of m' ≡ nodes_of m ++ plain.new_node s n.g n.parent n.operator None ∷ [])
+  abbrev blank : plain.Node
+  blank = let r = record_at m m.held in plain.new_node s r.g r.parent r.operator None
+
+  pub add_done : Consistent m' × (nodes_of m' ≡ nodes_of m ++ blank ∷ [])
   add_done = (
     record {
       lent = record {
         small = omega (arith, consistent.lent.small, a.capacity);
-        nodes = omega (arith, consistent.lent.nodes, a.capacity, ap length a.nodes, length-set m.nodes.now m.held n);
+        nodes = omega (arith, consistent.lent.nodes, a.capacity, ap length a.nodes);
         states = rw (a.capacity, a.variables) (omega (arith, consistent.lent.states, a.long));
         index = omega (arith, consistent.lent.index, a.capacity, ap length a.index, length-set m.index.now at (m.held + 1));
         entries = rw (a.queue, a.capacity) consistent.lent.entries;
@@ -306,15 +299,13 @@ module _ (m m' : Memory) (at : ℕ) (s : List ℕ) (n : Node) (consistent : Cons
       };
       within = omega (arith, a.held, a.capacity);
       indexed = indexed';
-      sound = subst (λ q. Sound search_item search_no_later q) (sym a.queue) consistent.sound;
       agrees = λ k e q.
           let o = consistent.agrees k e (sym (queue-same k) ∙ q) in
-          let d : k ≢ m.held = omega (arith, o.inside) in
-          record { inside = omega (arith, o.inside, a.held); sum = omega (arith, o.sum, ap (λ z. z.g) (old-record k d)); node = o.node };
+          record { inside = omega (arith, o.inside, a.held); sum = omega (arith, o.sum, ap (λ z. z.g) (same-record k)); node = o.node };
     },
-    subst (λ z. rows (node_in m') z ≡ nodes_of m ++ plain.new_node s n.g n.parent n.operator None ∷ []) (sym a.held)
-        (rows-add (node_in m) (node_in m') m.held _ (λ k z. node-same m m' k (old-state k z) (old-record k (omega arith)) (queue-same k))
-        (λ j. plain.new_node (new-state j) (new-record j).g (new-record j).parent (new-record j).operator (queued_of (new-idle j)))),
+    subst (λ z. rows (node_in m') z ≡ nodes_of m ++ blank ∷ []) (sym a.held)
+        (rows-add (node_in m) (node_in m') m.held _ (λ k z. node-same m m' k (old-state k z) (same-record k) (queue-same k))
+        (λ j. plain.new_node (new-state j) (same-record m.held j).g (same-record m.held j).parent (same-record m.held j).operator (queued_of (new-idle j)))),
   )
 
   pub add-untouched : Untouched m m'
@@ -322,8 +313,16 @@ module _ (m m' : Memory) (at : ℕ) (s : List ℕ) (n : Node) (consistent : Cons
     variables = a.variables;
     capacity = a.capacity;
     grows = omega (arith, a.held);
-    record_count = ap length a.nodes ∙ length-set m.nodes.now m.held n;
+    record_count = ap length a.nodes;
     byte_count = a.long;
-    records = λ k z. old-record k (omega (arith, a.held));
+    records = λ k z. same-record k;
     bytes = λ j z. a.beyond j (let f : (m.held + 1) * m.variables ≤ j = rw a.held at z in omega (arith, width, mul-le-mul_right m.variables l));
   }
+
+-- a state is added, and then gets its record
+pub add-settle : (ns ms ks : List plain.Node) (k : ℕ) (v : plain.Node) (g x i : ℕ) (o : Option ℕ) → k ≡ length ns → ms ≡ ns ++ v ∷ [] → ks ≡ set ms k (plain.new_node (plain.node ms k).state g x i o) →
+    ks ≡ ns ++ plain.new_node v.state g x i o ∷ []
+add-settle ns ms ks k v g x i o e p q =
+    let there : plain.node (ns ++ v ∷ []) (length ns) ≡ v = get_or-append_seam ns v [] plain.no_node in
+    q ∙ ap (λ j. set ms j (plain.new_node (plain.node ms j).state g x i o)) e ∙ ap (λ z. set z (length ns) (plain.new_node (plain.node z (length ns)).state g x i o)) p ∙
+    ap (λ u. set (ns ++ v ∷ []) (length ns) (plain.new_node u.state g x i o)) there ∙ set_last ns v (plain.new_node v.state g x i o)

@@ -3,8 +3,9 @@ pub mod Words
 pub mod Held
 pub mod Changes
 pub mod Tried
-pub mod Capacities
 pub mod Starting
 pub mod Props
 pub mod Trees
 pub mod Lining
+pub mod Ways
+pub mod Rounds

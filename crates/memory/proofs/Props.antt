@@ -5,7 +5,6 @@ use std.HLevel.{Π_prop}
 use native.Mathlib.Bridge.{le_prop}
 use base.Stored.{coded_ℕ}
 use denote.Struct.Props.{≡_prop}
-use Rattle.queue.proofs.Props.{sound_prop}
 use Rattle.queue.specs.declared.entries.SearchEntry.{SearchEntry}
 use Rattle.memory.specs.declared.memory.Memory.{Memory}
 use Rattle.memory.specs.Index.{Indexed}
@@ -36,6 +35,5 @@ consistent-prop p q = λ i. record {
   lent = room-prop p.lent q.lent i;
   within = le_prop p.within q.within i;
   indexed = indexed-prop p.indexed q.indexed i;
-  sound = sound_prop p.sound q.sound i;
   agrees = Π_prop (λ _. Π_prop (λ _. Π_prop (λ _. entry-prop))) p.agrees q.agrees i;
 }

@@ -1,21 +1,10 @@
 -- A row made from a function of the place, and slices of the state bytes.
-use Rattle.std.proofs.Common.{◌≡◌, ℕ, zero, suc, ◌+◌, ◌-◌, ◌*◌, ◌<◌, ◌≤◌, Bool, true, false, ◌≢◌, ◌⊎◌, List, [], ◌∷◌, ◌++◌, length, get_or, take, drop, set, Decides, MatchBool, sym, refl, ap, ◌∙◌, subst, ap₂, inl, inr, not-suc-le-zero, mul-le-mul_right, add-one, arith, length-append, length-drop, length-take-le, get_or-drop, get_or-take}
+use Rattle.std.proofs.Common.{◌≡◌, ℕ, zero, suc, ◌+◌, ◌*◌, ◌<◌, ◌≤◌, ◌≢◌, ◌⊎◌, List, [], ◌∷◌, ◌++◌, length, get_or, take, drop, set, sym, refl, ap, ◌∙◌, subst, ap₂, inl, inr, not-suc-le-zero, mul-le-mul_right, add-one, arith, length-append, length-drop, length-take-le, get_or-drop, get_or-take}
 use lib.ListN.{get_or-append}
 use lib.Seq.{get_or-append_seam, set-append_left, set-append_seam}
 use Rattle.plain.proofs.Splits.{lt-or-le}
 use Rattle.tables.proofs.Lists.{same-list}
-use Rattle.task.specs.Model.{Model, IsGoal}
-use Rattle.memory.specs.declared.node.Node.{Node}
-use Rattle.memory.specs.Rows.{rows, zero_node}
-
-abbrev set-g : List Node → ℕ → ℕ → List Node
-set-g ns k g = set ns k (record { g = g; parent = (get_or ns k zero_node).parent; operator = (get_or ns k zero_node).operator })
-
-abbrev set-parent : List Node → ℕ → ℕ → List Node
-set-parent ns k p = set ns k (record { g = (get_or ns k zero_node).g; parent = p; operator = (get_or ns k zero_node).operator })
-
-abbrev set-operator : List Node → ℕ → ℕ → List Node
-set-operator ns k o = set ns k (record { g = (get_or ns k zero_node).g; parent = (get_or ns k zero_node).parent; operator = o })
+use Rattle.memory.specs.Rows.{rows}
 
 pub rows-length : {X : Type 0} (f : ℕ → X) (n : ℕ) → length (rows f n) ≡ n
 rows-length f zero = refl
@@ -55,12 +44,6 @@ rows-set {X} f g (suc n) k l h = side (lt-or-le k n) (λ z. rows-set f g n k z (
 pub rows-add : {X : Type 0} (f g : ℕ → X) (n : ℕ) (x : X) → ((j : ℕ) → j < n → g j ≡ f j) → g n ≡ x → rows g (n + 1) ≡ rows f n ++ x ∷ []
 rows-add f g n x h e = rw add-one (ap₂ (λ a b. a ++ b ∷ []) (rows_upto f g n h) e)
 
--- a place set twice, and the last place set
-pub set_twice : {X : Type 0} (xs : List X) (k : ℕ) (a b : X) → set (set xs k a) k b ≡ set xs k b
-set_twice [] k a b = refl
-set_twice (x ∷ xs) zero a b = refl
-set_twice (x ∷ xs) (suc k) a b = ap (λ z. x ∷ z) (set_twice xs k a b)
-
 slice-length : (v o : ℕ) (bs : List ℕ) → o + v ≤ length bs → length (take v (drop o bs)) ≡ v
 slice-length v o bs l = length-take-le v (drop o bs) (omega (arith, length-drop o bs))
 
@@ -75,28 +58,6 @@ slice-same v o bs cs l e h = slice_is v o bs (take v (drop o cs)) l (slice-lengt
 pub slice-width : (v k n : ℕ) (bs : List ℕ) → k < n → n * v ≤ length bs → length (take v (drop (k * v) bs)) ≡ v
 slice-width v k n bs l h = slice-length v (k * v) bs (omega (arith, mul-le-mul_right v l))
 
-pub decided : (r : Bool) (n v : ℕ) (xs ys : List ℕ) → n ≡ v → Decides r (take n xs ≡ ys) → MatchBool r (take v xs ≡ ys) (take v xs ≡ ys → ⊥)
-decided true n v xs ys e h = let h' : Decides true (take v xs ≡ ys) = rw e at h in h'.0 refl
-decided false n v xs ys e h = λ q. let h' : Decides false (take v xs ≡ ys) = rw e at h in let f : false ≡ true = h'.1 q in let z : ◌≡◌ {A = ℕ} 0 1 = cc in omega arith
-
--- whether a row of the right length has the goal facts
-pub goal-of : (r : Bool) (T : Model) (s u : List ℕ) → s ≡ u → length u ≡ length T.domains → MatchBool r ((length s ≡ length T.domains) × IsGoal T s) ((length s ≡ length T.domains) × IsGoal T s → ⊥) → MatchBool r (IsGoal T u) (IsGoal T u → ⊥)
-goal-of true T s u e l h = subst (λ z. IsGoal T z) e h.1
-goal-of false T s u e l h = λ g. h (subst (λ z. (length z ≡ length T.domains) × IsGoal T z) (sym e) (l, g))
-
-pub set_same : {X : Type 0} (xs : List X) (k : ℕ) (d : X) → set xs k (get_or xs k d) ≡ xs
-set_same [] k d = refl
-set_same (x ∷ xs) zero d = refl
-set_same (x ∷ xs) (suc k) d = ap (λ z. x ∷ z) (set_same xs k d)
-
--- a record set field by field
-pub set-fields : (ns : List Node) (k : ℕ) (new : Node) → set-operator (set-parent (set-g ns k new.g) k new.parent) k new.operator ≡ set ns k new
-set-fields [] k new = refl
-set-fields (n ∷ ns) zero new = refl
-set-fields (n ∷ ns) (suc k) new = ap (λ z. n ∷ z) (set-fields ns k new)
-
+-- the last place set
 pub set_last : {X : Type 0} (xs : List X) (a b : X) → set (xs ++ a ∷ []) (length xs) b ≡ xs ++ b ∷ []
 set_last xs a b = set-append_seam xs a [] b
-
-pub front_length : (v : ℕ) (xs : List ℕ) → v ≤ length xs → length (take (v - 0) xs) ≡ v
-front_length v xs l = length-take-le (v - 0) xs (omega arith) ∙ omega arith

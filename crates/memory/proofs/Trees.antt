@@ -1,5 +1,5 @@
 -- The paths back to node 0, whatever the estimator answers.
-use Rattle.std.proofs.Common.{◌≡◌, ℕ, zero, suc, ◌+◌, ◌<◌, ◌≤◌, ◌≢◌, ◌⊎◌, List, [], ◌∷◌, ◌++◌, length, get_or, set, Option, sym, refl, ap, ◌∙◌, subst, inl, inr, append_assoc, append-nil, arith, length-append, length-set}
+use Rattle.std.proofs.Common.{◌≡◌, ℕ, zero, suc, ◌+◌, ◌<◌, ◌≤◌, ◌≢◌, ◌⊎◌, List, [], ◌∷◌, ◌++◌, length, get_or, set, Option, sym, refl, ap, ◌∙◌, subst, inl, inr, arith, length-append, length-set}
 use mathlib.Core.Logic.{∥∥₁_elim, ∥∥₁_map, ∥∥₁_prop}
 use Rattle.task.specs.Model.{Model, prices, applied}
 use Rattle.plain.specs.Plain as plain
@@ -9,8 +9,7 @@ use Rattle.plain.proofs.Splits.{same_or_not}
 use Rattle.plain.proofs.Whole.{path-one}
 use Rattle.plain.proofs.Paths.{path-same}
 use Rattle.queue.proofs.Pigeon.{pigeon}
-use Rattle.memory.specs.Trees.{ParentTree, BranchTo}
-use native.Mathlib.Bridge.{le_prop}
+use Rattle.memory.specs.Trees.{ParentTree}
 
 -- a node is placed at k: new, or at a lesser cost
 module _ (ns ms : List Node) (k : ℕ) (v : Node) (tree : ParentTree ns) (placed : Placed ns k v ms) (falls : k < length ns → v.g < (node ns k).g) (nz : k ≢ 0) (from : v.parent < length ns) (apart : v.parent ≢ k)
@@ -166,17 +165,3 @@ root-tree ns s w e = subst (λ z. ParentTree z) (sym e) (record {
   back = λ k l nz. absurd (nz (zero_of k l));
   paths = λ k l. ∣ ([], home (zero_of k l) refl) ∣₁;
 })
-
-pub branch-none : (ns : List Node) (x : ℕ) → BranchTo ns x x []
-branch-none ns x is w = subst (λ z. PathTo ns x z) (sym (append-nil is)) w
-
-pub branch-more : (ns : List Node) (k x : ℕ) (js : List ℕ) → k ≢ 0 → k < length ns → BranchTo ns k x js → BranchTo ns (node ns k).parent x ((node ns k).operator ∷ js)
-branch-more ns k x js nz l b is w = subst (λ z. PathTo ns x z) (append_assoc is ((node ns k).operator ∷ []) js) (b (is ++ (node ns k).operator ∷ []) (step is nz l w refl))
-
-pub branch-all : (ns : List Node) (k x : ℕ) (js : List ℕ) → k ≡ 0 → BranchTo ns k x js → PathTo ns x js
-branch-all ns k x js z b = b [] (home z refl)
-
--- a branch is shorter than the number of nodes
-pub branch-short : (ns : List Node) (k x : ℕ) (js : List ℕ) → ParentTree ns → k < length ns → BranchTo ns k x js → length js < length ns
-branch-short ns k x js h l b =
-    ∥∥₁_elim (h.paths k l) le_prop (λ w. let z = path-short ns h.some x (w.0 ++ js) (b w.0 w.1) in let q = length-append w.0 js in omega arith)

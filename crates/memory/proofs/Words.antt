@@ -1,5 +1,9 @@
 -- The words of the index.
-use Rattle.std.proofs.Common.{◌≡◌, ℕ, zero, suc, ◌+◌, ◌-◌, ◌*◌, ◌%◌, ◌^◌, ◌<◌, ◌≤◌, ◌≢◌, ◌⊎◌, List, [], ◌∷◌, length, get_or, drop, set, sym, refl, ap, ◌∙◌, subst, inl, inr, suc-le-suc, le_of_suc-le-suc, not-suc-le-zero, mod-eq_of_lt, arith, length-set, drop-cons, get_or-set_other, get_or-set_same}
+use Rattle.std.proofs.Common.{◌≡◌, ℕ, zero, suc, ◌+◌, ◌-◌, ◌*◌, ◌%◌, ◌^◌, ◌<◌, ◌≤◌, ◌≢◌, ◌⊎◌, List, [], ◌∷◌, length, get_or, set, sym, refl, ap, ◌∙◌, subst, inl, inr, suc-le-suc, le_of_suc-le-suc, not-suc-le-zero, mod-eq_of_lt, arith, length-set, get_or-set_other, get_or-set_same}
+use mathlib.Core.List.{reverse}
+use Rattle.std.specs.List.{fold}
+use Rattle.std.proofs.lemmas.List.{reverse-append}
+use Rattle.std.proofs.lemmas.List.Sums.{fold_push}
 use mathlib.Core.Logic.{∥∥₁_elim, ∥∥₁_map}
 use native.Mathlib.Nat.{add-mod_right}
 use Rattle.plain.proofs.Splits.{lt-or-le, same_or_not}
@@ -97,18 +101,14 @@ indexed-add ws state state' held at ix v same = record {
     seen k l (inl q) = rw q (∣ new ∣₁)
     seen k l (inr d) = let m : k < held = omega arith in rw (same k m) (∥∥₁_map (ix.found k m) (λ f. old (state k) k f))
 
--- one byte more in the fingerprint
-pub fingerprint-more : (s : List ℕ) (i h : ℕ) → 0 < i → i ≤ length s → h ≡ fingerprint (drop i s) → ((h + (get_or s (i - 1) 0 + 1)) % 2 ^ 64 * 11400714819323198485) % 2 ^ 64 ≡ fingerprint (drop (i - 1) s)
-unfolding fingerprint
-fingerprint-more s i h z l e =
-    let m : i - 1 < length s = omega arith in
-    let n : suc (i - 1) ≡ i = omega arith in
-    let q : drop (i - 1) s ≡ get_or s (i - 1) 0 ∷ drop i s = drop-cons s (i - 1) 0 m ∙ ap (λ k. get_or s (i - 1) 0 ∷ drop k s) n in
-    ap (λ v. ((v + (get_or s (i - 1) 0 + 1)) % 2 ^ 64 * 11400714819323198485) % 2 ^ 64) e ∙ sym (ap fingerprint q)
+-- the fingerprint, from the last byte back
+abbrev pub mixed : ℕ → ℕ → ℕ
+mixed h b = ((h + (b + 1)) % 2 ^ 64 * 11400714819323198485) % 2 ^ 64
 
-pub fingerprint-none : 0 ≡ fingerprint []
+pub fingerprint-fold : (s : List ℕ) → fold mixed 0 (reverse s) ≡ fingerprint s
 unfolding fingerprint
-fingerprint-none = refl
+fingerprint-fold [] = refl
+fingerprint-fold (b ∷ s) = ap (fold mixed 0) (reverse-append (b ∷ []) s) ∙ fold_push mixed 0 (reverse s) b ∙ ap (λ h. mixed h b) (fingerprint-fold s)
 
 -- the places come round
 pub wrap-below : (x n : ℕ) → x < n → x ≡ x % n

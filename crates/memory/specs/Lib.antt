@@ -4,3 +4,5 @@ pub mod Capacity
 pub mod Steps
 pub mod Trees
 pub mod Plans
+pub mod Expanded
+pub mod Ways

@@ -1,8 +1,8 @@
 -- The nodes of the plain search that the lent memory stands for, and what every call on the memory asks and keeps.
 use Rattle.std.specs.Prelude.{◌≡◌, ℕ, zero, suc, ◌+◌, ◌*◌, ◌<◌, ◌≤◌, List, [], ◌∷◌, ◌++◌, length, take, drop, Some, None, Option, slice_index, slice_index_or, slice_set}
 use Rattle.plain.specs.Plain as plain
-use Rattle.queue.specs.Content.{content, Sound}
-use Rattle.queue.specs.Entries.{search_item, search_no_later}
+use Rattle.queue.specs.Content.{content}
+use Rattle.queue.specs.Entries.{search_item}
 use Rattle.memory.specs.Index.{Indexed, Vacant}
 use Rattle.memory.specs.declared.node.Node.{Node}
 use Rattle.queue.specs.declared.entries.SearchEntry.{SearchEntry}
@@ -62,7 +62,6 @@ pub record Consistent (m : Memory) : Type 0 where
   pub lent : RoomFor m
   pub within : m.held ≤ m.capacity
   pub indexed : Indexed m.index.now (state_at m) m.held
-  pub sound : Sound search_item search_no_later m.queue
   pub agrees : QueueAgrees m
 
 -- what no change of the memory touches: its sizes, and the node records and state bytes beyond those of the held nodes
@@ -80,10 +79,6 @@ abbrev pub LookedUp : Memory → List ℕ → Lookup → Type 0
 LookedUp m s (Held k) = plain.Held (nodes_of m) s k
 LookedUp m s (Free at) = plain.NotHeld (nodes_of m) s × Vacant m.index.now s at
 LookedUp m s Crowded = plain.NotHeld (nodes_of m) s × (m.capacity ≤ m.held)
-
--- the node with that entry in the open list
-abbrev pub queued_with : plain.Node → Option ℕ → plain.Node
-queued_with n w = plain.new_node n.state n.g n.parent n.operator w
 
 -- e is the least entry of the open list, and is gone
 pub record TakenFirst (ns : List plain.Node) (e : SearchEntry) (ns' : List plain.Node) : Type 0 where

@@ -5,7 +5,8 @@ ghost use Rattle.memory.specs.Rows.{state_at, Consistent, LookedUp};
 
 use crate::memory::Memory;
 
-// Where a state is held, or where it would go; Crowded: no word of the index is free.
+// Where a state is held, or where it would go; Crowded: no word of the index is free. An enum of its own, since there are
+// three answers, each with a name, and none is an error.
 #[derive(Clone, Copy)]
 pub enum Lookup {
     Held(usize),
@@ -17,13 +18,11 @@ pub enum Lookup {
 fn fingerprint_of(state: &[u8]) -> u64
     ensures { result ≡ fingerprint state.now }
 {
-    let mut mixed = 0u64;
-    for place in (0..state.len()).rev() {
-        mixed = mixed
-            .wrapping_add(state[place] as u64 + 1)
-            .wrapping_mul(0x9e37_79b9_7f4a_7c15);
-    }
-    mixed
+    state.iter().rev().fold(0, |mixed: u64, byte| {
+        mixed
+            .wrapping_add(*byte as u64 + 1)
+            .wrapping_mul(0x9e37_79b9_7f4a_7c15)
+    })
 }
 
 // The first word that is tried for a state: the upper half of the fingerprint is the better mixed one.
@@ -36,20 +35,6 @@ fn hash_of(state: &[u8], slots: usize) -> usize
     (mixed / 4294967296) as usize % slots
 }
 
-// The word after `first` and `others` more, counted round.
-fn wrapped(first: usize, others: usize, slots: usize) -> usize
-    requires first { first < slots }
-    requires others { others < slots }
-    requires few { slots ≤ 131070 }
-    ensures { result ≡ (first + others) % slots }
-{
-    let at = first + others;
-    if at < slots {
-        return at;
-    }
-    at - slots
-}
-
 impl<'a> Memory<'a> {
     // Whether node k has this state.
     fn has_state(&self, node: usize, state: &[u8]) -> bool
@@ -57,9 +42,7 @@ impl<'a> Memory<'a> {
         requires inside { node < self.now.held }
         ensures { MatchBool result (state_at self.now node ≡ state.now) (state_at self.now node ≢ state.now) }
     {
-        let at = node * self.variables;
-        let row = &self.states[at..at + self.variables];
-        row == state
+        self.state(node) == state
     }
 
     // The node of a state, or the free word for it.
@@ -72,8 +55,7 @@ impl<'a> Memory<'a> {
             return Lookup::Crowded;
         }
         let first = hash_of(state, slots);
-        for probes in 0..slots {
-            let at = wrapped(first, probes, slots);
+        for at in (first..slots).chain(0..first) {
             let word = self.index[at] as usize;
             if word == 0 {
                 return Lookup::Free(at);

@@ -1,6 +1,7 @@
 // The search's lent memory: node records, state bytes, their index, and the open list.
 #![tactic(auto)]
 
+pub mod full;
 pub mod index;
 pub mod lines;
 pub mod memory;
@@ -9,3 +10,4 @@ pub mod opening;
 pub mod root;
 pub mod store;
 pub mod successors;
+pub mod way;

@@ -1,27 +1,42 @@
 // The lines of a plan, traced back from its last node.
-ghost use Rattle.std.specs.Prelude.{◌≡◌, ℕ, ◌+◌, ◌-◌, ◌*◌, ◌^◌, ◌<◌, ◌≤◌, min, List, ◌++◌, length, drop};
+ghost use Rattle.std.specs.Prelude.{◌≡◌, ℕ, ◌+◌, ◌-◌, ◌*◌, ◌^◌, ◌<◌, ◌≤◌, List, length, reverse};
 ghost use Rattle.task.specs.Names.{operator_name};
 ghost use Rattle.text.specs.Lines.{line};
+ghost use Rattle.text.specs.Written.{Prepends};
 ghost use Rattle.plain.specs.Plain.{PathTo};
 ghost use Rattle.memory.specs.Rows.{Consistent, nodes_of};
 ghost use Rattle.memory.specs.Trees.{ParentTree};
 ghost use Rattle.memory.specs.Plans.{lines};
+ghost use Rattle.memory.specs.Ways.{way_of};
 
 use crate::memory::Memory;
+use crate::way::Way;
 use task::task::Task;
-use text::line_back;
+use text::Tail;
 
 // The name of the operator of that number; past the last one, nothing.
 fn name_of<'a>(task: &Task<'a>, operator: usize) -> &'a [u8]
     ensures { result.now ≡ operator_name task.now operator }
 {
-    match task.operator_name(operator) {
-        Some(name) => name,
-        None => b"",
-    }
+    task.operator_name(operator).unwrap_or(b"")
 }
 
 impl<'a> Memory<'a> {
+    // The way back from a node.
+    fn way_back(&self, node: usize) -> Way<'_>
+        requires consistent { Consistent self.now }
+        requires inside { node < self.now.held }
+        requires tree { ParentTree (nodes_of self.now) }
+        ensures path { (is : List ℕ) × PathTo (nodes_of self.now) node is × (way_of result ≡ reverse is) }
+        ensures short { length (way_of result) ≤ self.now.held }
+    {
+        Way {
+            nodes: self.nodes,
+            node,
+            left: self.held,
+        }
+    }
+
     // How many bytes the lines of the path to node x have: more, perhaps, than a slice can.
     pub fn lines_len(&self, task: &Task<'_>, node: usize) -> u128
         requires consistent { Consistent self.now }
@@ -30,38 +45,23 @@ impl<'a> Memory<'a> {
         ensures path { (is : List ℕ) × PathTo (nodes_of self.now) node is × (result ≡ length (lines (operator_name task.now) is)) }
         ensures low { result ≤ 65535 * 2 ^ 65 }
     {
-        let mut current = node;
         let mut len = 0u128;
-        for steps in 0..self.held {
-            if current == 0 {
-                return len;
-            }
-            let name = name_of(task, self.nodes[current].operator as usize);
-            len += name.len() as u128 + 3;
-            current = self.nodes[current].parent as usize;
+        for operator in self.way_back(node) {
+            len += name_of(task, operator as usize).len() as u128 + 3;
         }
         len
     }
 
-    // Writes the lines of the path to node x right before `end`.
-    pub fn lines_back(&self, task: &Task<'_>, node: usize, buffer: &mut [u8], end: usize) -> usize
+    // Writes the lines of the path to node x before what is written.
+    pub fn lines_back(&self, task: &Task<'_>, node: usize, tail: &mut Tail<'_>)
         requires consistent { Consistent self.now }
         requires inside { node < self.now.held }
         requires tree { ParentTree (nodes_of self.now) }
-        requires fits { (is : List ℕ) → PathTo (nodes_of self.now) node is → length (lines (operator_name task.now) is) ≤ end }
-        requires within { end ≤ length buffer.old }
-        ensures { (is : List ℕ) × PathTo (nodes_of self.now) node is × (result + length (lines (operator_name task.now) is) ≡ end) × (drop result buffer.new ≡ lines (operator_name task.now) is ++ drop end buffer.old) }
+        requires fits { (is : List ℕ) → PathTo (nodes_of self.now) node is → length (lines (operator_name task.now) is) ≤ tail.old.at }
+        ensures { (is : List ℕ) × PathTo (nodes_of self.now) node is × Prepends tail.old (lines (operator_name task.now) is) tail.new }
     {
-        let mut current = node;
-        let mut at = end;
-        for steps in 0..self.held {
-            if current == 0 {
-                return at;
-            }
-            let name = name_of(task, self.nodes[current].operator as usize);
-            at = line_back(buffer, at, name);
-            current = self.nodes[current].parent as usize;
+        for operator in self.way_back(node) {
+            tail.line(name_of(task, operator as usize));
         }
-        at
     }
 }

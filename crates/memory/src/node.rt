@@ -1,5 +1,5 @@
 // A held state's record: its path cost, and the node and the operator that it came from at this cost.
-#[derive(Clone, Copy)]
+#[derive(Clone, Copy, Default)]
 pub struct Node {
     pub g: u32,
     pub parent: u32,

@@ -1,66 +1,12 @@
--- That one line more is written in each round, and that node 0 is met before the rounds end.
-use Rattle.std.proofs.Common.{◌≡◌, ◌+◌, ◌<◌, ◌≤◌, [], ◌∷◌, ◌++◌, length, drop, sym, refl, ap, ◌∙◌, subst, append_assoc, arith, length-append}
+-- That there is room for each line.
+use Rattle.std.proofs.Common.{◌+◌, ◌++◌, ◌≤◌, length, sym, ap, ◌∙◌, subst}
 use Rattle.task.specs.Names.{operator_name}
-use Rattle.text.specs.Lines.{line}
-use Rattle.plain.specs.Plain as plain
-use Rattle.memory.specs.Rows.{nodes_of, record_at}
-use Rattle.memory.specs.Trees.{BranchTo}
-use Rattle.memory.specs.Plans.{lines}
-use Rattle.memory.proofs.Held.{count_of, node-is}
-use Rattle.memory.proofs.Trees.{branch-none, branch-more, branch-all, branch-short}
-use Rattle.memory.proofs.Lining.{room-more, line-length}
+use Rattle.memory.proofs.Lining.{room-more}
 use Rattle.memory.proofs.memory.Memory.lines_back.Goals as goal
 
-pub loop-steps-init : goal.loop-steps-init
-loop-steps-init c = (c.requires.inside, ([], branch-none (nodes_of c.args.self.now) c.args.node, refl, omega arith, refl))
-
-pub returns-then-current-eq0 : goal.returns-then-current-eq0
-returns-then-current-eq0 c =
-    let b = c.loop-steps.invariant.1 in
-    (b.0, branch-all (nodes_of c.args.self.now) c.loop-steps.current c.args.node b.0 c.if-current-eq0.true b.1, b.3, b.4)
-
-pub line_back-at-requires : goal.line_back-at-requires
-line_back-at-requires c =
-    let m = c.args.self.now in
-    let ns = nodes_of m in
-    let t = c.args.task.now in
-    let k = c.loop-steps.current in
-    let b = c.loop-steps.invariant.1 in
-    let l : k < length ns = omega (arith, c.loop-steps.invariant.0, count_of m) in
-    let e : (plain.node ns k).operator ≡ (record_at m k).operator = ap (λ z. z.operator) (node-is m k c.loop-steps.invariant.0) in
-    record {
-      fits = subst (λ z. length z + 3 ≤ c.loop-steps.at) (ap (operator_name t) e ∙ sym c.name_of-name.ensures)
-          (room-more (operator_name t) ns k c.args.node c.loop-steps.at c.args.end b.0 c.requires.tree l c.if-current-eq0.false b.1 c.requires.fits b.3);
-      within = omega (arith, b.3);
-    }
-
-pub loop-steps-preserved : goal.loop-steps-preserved
-loop-steps-preserved c =
-    let m = c.args.self.now in
-    let ns = nodes_of m in
-    let k = c.loop-steps.current in
-    let b = c.loop-steps.invariant.1 in
-    let name = operator_name c.args.task.now in
-    let by = (record_at m k).operator in
-    let l : k < length ns = omega (arith, c.loop-steps.invariant.0, count_of m) in
-    let e : (plain.node ns k).parent ≡ (record_at m k).parent = ap (λ z. z.parent) (node-is m k c.loop-steps.invariant.0) in
-    let f : (plain.node ns k).operator ≡ by = ap (λ z. z.operator) (node-is m k c.loop-steps.invariant.0) in
-    let x = c.line_back-at.ensures in
-    let q = c.name_of-name.ensures in (
-      omega (arith, e, count_of m, (c.requires.tree.back k l c.if-current-eq0.false).0),
-      (
-        by ∷ b.0,
-        subst (λ z. BranchTo ns (record_at m k).parent c.args.node (z ∷ b.0)) f (subst (λ z. BranchTo ns z c.args.node ((plain.node ns k).operator ∷ b.0)) e (branch-more ns k c.args.node b.0 c.if-current-eq0.false l b.1)),
-        omega (arith, b.2),
-        omega (arith, x.at, b.3, ap length q, length-append (line (name by)) (lines name b.0), line-length (name by)),
-        x.tail ∙ ap (λ n. line n ++ drop c.loop-steps.at c.loop-steps.buffer) q ∙ ap (λ z. line (name by) ++ z) b.4 ∙ sym (append_assoc (line (name by)) (lines name b.0) (drop c.args.end c.args.buffer.now)),
-      ),
-    )
-
-pub returns : goal.returns
-returns c =
-    let m = c.args.self.now in
-    let ns = nodes_of m in
-    let b = c.loop-steps.invariant.1 in
-    let h : length b.0 < length ns = branch-short ns c.loop-steps.current c.args.node b.0 c.requires.tree (omega (arith, c.loop-steps.invariant.0, count_of m)) b.1 in
-    absurd (omega (arith, b.2, count_of m))
+pub line-requires : goal.line-requires
+line-requires c =
+    let v = c.loop-operator.invariant in
+    let w = v.2 in
+    let step = ap (λ z. c.loop-operator.yielded ++ z) (sym c.in-Some.ensures.steps) ∙ w.2 in
+    subst (λ z. length z + 3 ≤ c.loop-operator.tail.at) (sym c.name_of.ensures) (room-more (operator_name c.args.task.now) c.loop-operator.yielded _ w.0 c.in-Some.operator c.loop-operator.tail.at c.args.tail.now.at step (c.requires.fits w.0 w.1) v.3.at)

@@ -1,10 +1,15 @@
--- The lines written so far are those of the branch from node k to node x.
-use Rattle.std.proofs.Common.{◌≡◌, ℕ, ◌+◌, ◌<◌, List, ◌++◌, length, drop}
+-- The lines written so far are those of the operators given so far.
+use Rattle.std.proofs.Common.{◌≡◌, ℕ, List, ◌++◌, reverse}
+use Rattle.text.specs.Written.{Prepends}
 use Rattle.task.specs.Names.{operator_name}
+use Rattle.plain.specs.Plain.{PathTo}
 use Rattle.memory.specs.Rows.{nodes_of}
-use Rattle.memory.specs.Trees.{BranchTo}
 use Rattle.memory.specs.Plans.{lines}
+use Rattle.memory.specs.Ways.{way_of}
 use Rattle.memory.proofs.memory.Memory.lines_back.Given as goal
 
-abbrev pub invariant-loop-steps : goal.invariant-loop-steps
-invariant-loop-steps l = (l.current < l.self.held) × ((js : List ℕ) × BranchTo (nodes_of l.self) l.current l.node js × (length js ≡ l.steps) × (l.at + length (lines (operator_name l.task) js) ≡ l.end) × (drop l.at l.buffer ≡ lines (operator_name l.task) js ++ drop l.end l.initial.buffer))
+abbrev pub invariant-loop-operator : goal.invariant-loop-operator
+invariant-loop-operator l =
+    (goal.iterator-loop-operator).can_next l.operator-iterator × (goal.iterator-loop-operator).is_finite l.operator-iterator ×
+    ((is : List ℕ) × PathTo (nodes_of l.self) l.node is × (l.yielded ++ way_of l.operator-iterator ≡ reverse is)) ×
+    Prepends l.initial.tail (lines (operator_name l.task) (reverse l.yielded)) l.tail
