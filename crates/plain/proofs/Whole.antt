@@ -1,5 +1,5 @@
 -- The law over whole runs.
-use Rattle.std.proofs.Common.{◌≡◌, ℕ, ◌+◌, ◌-◌, ◌*◌, ◌<◌, ◌≤◌, Bool, true, false, List, [], ◌∷◌, ◌++◌, length, drop, Option, sym, refl, ap, ◌∙◌, subst, inl, inr, arith}
+use Rattle.std.proofs.Common.{◌≡◌, ◌≢◌, ℕ, ◌+◌, ◌-◌, ◌*◌, ◌<◌, ◌≤◌, Bool, true, false, List, [], ◌∷◌, ◌++◌, length, drop, Option, sym, refl, ap, ◌∙◌, subst, inl, inr, arith}
 use Rattle.estimator.specs.Price.{Shares}
 use Rattle.task.specs.Model.{Model, prices, Plan, Cost, dearest, WellFormed}
 use Rattle.plain.specs.declared.fault.Fault.TheVariants.{Set}
@@ -17,38 +17,7 @@ path-one ns k is js (home z e) (step ks nz l w e') = absurd (nz z)
 path-one ns k is js (step hs nz l w e) (home z e') = absurd (nz z)
 path-one ns k is js (step hs nz l w e) (step ks nz' l' w' e') = e ∙ ap (λ ms. ms ++ (node ns k).operator ∷ []) (path-one ns (node ns k).parent hs ks w w') ∙ sym e'
 
--- an answer that no later call ends
-abbrev pub Plainly : Outcome → Type 0
-Plainly (refused f) = Unit {0}
-Plainly started = Unit {0}
-Plainly more = Unit {0}
-Plainly (found_plan f) = ⊥
-Plainly no_plan = ⊥
-Plainly out_of_room = ⊥
-Plainly bound_read = Unit {0}
-Plainly (written w) = ⊥
-
-abbrev pub NotMore : Outcome → Type 0
-NotMore (refused f) = Unit {0}
-NotMore started = Unit {0}
-NotMore more = ⊥
-NotMore (found_plan f) = Unit {0}
-NotMore no_plan = Unit {0}
-NotMore out_of_room = Unit {0}
-NotMore bound_read = Unit {0}
-NotMore (written w) = Unit {0}
-
--- an answer that no text comes with
-abbrev pub Dry : Outcome → Type 0
-Dry (refused f) = Unit {0}
-Dry started = Unit {0}
-Dry more = Unit {0}
-Dry (found_plan f) = Unit {0}
-Dry no_plan = Unit {0}
-Dry out_of_room = Unit {0}
-Dry bound_read = Unit {0}
-Dry (written w) = ⊥
-
+-- a status from which the search goes on
 abbrev Going : Status → Type 0
 Going fresh = Unit {0}
 Going running = Unit {0}
@@ -96,23 +65,14 @@ module _ {E : Type 0} (est : Kind E) (lawful : Lawful est) (t : Model) (sound : 
   said_more s run st ns f old q (inl e) = subst (λ z. Consistent st ns z) e f
   said_more s run st ns f old q (inr h) = old q h
 
-  not_more : (q : Outcome) → NotMore q → q ≡ more → ⊥
-  not_more q h e = let z : NotMore more = subst (λ y. NotMore y) e h in z
-
-  not-wrote : (q : Outcome) (w : List ℕ) → Dry q → q ≡ written w → ⊥
-  not-wrote q w h e = let z : Dry (written w) = subst (λ y. Dry y) e h in z
-
-  dry-buffer : (q : Outcome) (row : List ℕ) (s : Exchange) → Dry q → (f : Find) (b w : List ℕ) → s.call ≡ write f b → q ≡ written w → WrittenInto t N text b row w
-  dry-buffer q row s h f b w ec ew = absurd (not-wrote q w h ew)
-
-  stays : (s : Exchange) (q : Outcome) (row : List ℕ) (go : Bool) (run : Run) (p : Plain) (e : E) → Stand run p e → s.answer ≡ reports q row go p → NotMore q → Consistent p.status p.nodes q →
+  stays : (s : Exchange) (q : Outcome) (row : List ℕ) (go : Bool) (run : Run) (p : Plain) (e : E) → Stand run p e → s.answer ≡ reports q row go p → q ≢ more → Consistent p.status p.nodes q →
       ((f : Find) (b w : List ℕ) → s.call ≡ write f b → q ≡ written w → WrittenInto t N text b row w) → Stand (s ∷ run) p e
   stays s q row go run p e h a nm f u = record {
     every = (
       record {
         rises = rw a (omega (arith, h.bound));
         below = λ is l. rw a (h.below is l);
-        counts = λ n ec em. absurd (not_more q nm (sym (ap (λ z. z.outcome) a) ∙ em));
+        counts = λ n ec em. absurd (nm (sym (ap (λ z. z.outcome) a) ∙ em));
         total = rw a h.within;
         buffer = λ g b w ec ew. rw a (u g b w ec (sym (ap (λ z. z.outcome) a) ∙ ew));
       },
@@ -126,28 +86,18 @@ module _ {E : Type 0} (est : Kind E) (lawful : Lawful est) (t : Model) (sound : 
     sits = sits-stays s run p e p.status h.sits;
   }
 
-  plain-fine : (st : Status) (ns : List Node) (q : Outcome) → Plainly q → Consistent st ns q
-  plain-fine st ns (refused f) h = tt
-  plain-fine st ns started h = tt
-  plain-fine st ns more h = tt
-  plain-fine st ns (found_plan f) h = absurd h
-  plain-fine st ns no_plan h = absurd h
-  plain-fine st ns out_of_room h = absurd h
-  plain-fine st ns bound_read h = tt
-  plain-fine st ns (written w) h = absurd h
+  -- while it is going, nothing final was answered, so that what was answered holds of any search
+  going-carries : (st st' : Status) (ns ns' : List Node) (q : Outcome) → Going st → Consistent st ns q → Consistent st' ns' q
+  going-carries st st' ns ns' (refused f) g h = tt
+  going-carries st st' ns ns' started g h = tt
+  going-carries st st' ns ns' more g h = tt
+  going-carries st st' ns ns' (found_plan f) g h = absurd (subst Going h.0 g)
+  going-carries st st' ns ns' no_plan g h = absurd (subst Going h g)
+  going-carries st st' ns ns' out_of_room g h = absurd (subst Going h g)
+  going-carries st st' ns ns' bound_read g h = tt
+  going-carries st st' ns ns' (written w) g h = absurd (subst Going h.2 g)
 
-  -- while it is going, nothing final was answered
-  going-plain : (st : Status) (ns : List Node) (q : Outcome) → Going st → Consistent st ns q → Plainly q
-  going-plain st ns (refused f) g h = tt
-  going-plain st ns started g h = tt
-  going-plain st ns more g h = tt
-  going-plain st ns (found_plan f) g h = subst (λ z. Going z) h.0 g
-  going-plain st ns no_plan g h = subst (λ z. Going z) h g
-  going-plain st ns out_of_room g h = subst (λ z. Going z) h g
-  going-plain st ns bound_read g h = tt
-  going-plain st ns (written w) g h = subst (λ z. Going z) h.2 g
-
-  moves : (s : Exchange) (q : Outcome) (row : List ℕ) (go : Bool) (run : Run) (p p' : Plain) (e e' : E) → Stand run p e → Going p.status → Dry q → s.answer ≡ reports q row go p' → Consistent p'.status p'.nodes q →
+  moves : (s : Exchange) (q : Outcome) (row : List ℕ) (go : Bool) (run : Run) (p p' : Plain) (e e' : E) → Stand run p e → Going p.status → ((w : List ℕ) → q ≢ written w) → s.answer ≡ reports q row go p' → Consistent p'.status p'.nodes q →
       Ended est lawful t sound N p p' → ((n : ℕ) → s.call ≡ advance n → q ≡ more → p'.total ≡ p.total + n) → Sits p'.status (s ∷ run) p' e' → Stand (s ∷ run) p' e'
   moves s q row go run p p' e e' h g dry a f d counts sits = record {
     every = (
@@ -156,7 +106,7 @@ module _ {E : Type 0} (est : Kind E) (lawful : Lawful est) (t : Model) (sound : 
         below = λ is l. rw a (d.below is l);
         counts = λ n ec em. rw a (counts n ec (sym (ap (λ z. z.outcome) a) ∙ em) ∙ ap (λ z. z + n) (sym h.total));
         total = rw a d.total;
-        buffer = λ g b w ec ew. absurd (not-wrote q w dry (sym (ap (λ z. z.outcome) a) ∙ ew));
+        buffer = λ g b w ec ew. absurd (dry w (sym (ap (λ z. z.outcome) a) ∙ ew));
       },
       h.every,
     );
@@ -165,7 +115,7 @@ module _ {E : Type 0} (est : Kind E) (lawful : Lawful est) (t : Model) (sound : 
     below = d.below;
     within = d.total;
     outcome = said_more s run p'.status p'.nodes (rw a f)
-        (λ z m. plain-fine p'.status p'.nodes z (going-plain p.status p.nodes z g (h.outcome z m)));
+        (λ z m. going-carries p.status p'.status p.nodes p'.nodes z g (h.outcome z m));
     sits = sits;
   }
 
@@ -185,9 +135,6 @@ module _ {E : Type 0} (est : Kind E) (lawful : Lawful est) (t : Model) (sound : 
     outcome = h.outcome;
     sits = subst (λ z. Sits z run p e') (sym st) (fresh_at run p e h st);
   }
-
-  same_count : (n k : ℕ) → advance n ≡ advance k → n ≡ k
-  same_count n k q = cc
 
   ended-after : (p q r : Plain) → p.bound ≤ q.bound → Ended est lawful t sound N q r → Ended est lawful t sound N p r
   ended-after p q r l d = record { rises = omega (arith, d.rises); below = d.below; total = d.total }
@@ -209,14 +156,14 @@ module _ {E : Type 0} (est : Kind E) (lawful : Lawful est) (t : Model) (sound : 
   }
 
   starts-stand : (s : Exchange) (row : List ℕ) (run : Run) (p p' : Plain) (e e' : E) → Stand run p e → s.call ≡ start row → Starts est t N row p e s.answer p' e' → Stand (s ∷ run) p' e'
-  starts-stand s row run p p' e e' h c (Starts.not_fresh ns a ep ee) = rw (ep, ee) (stays s _ _ _ run p e h a tt tt (dry-buffer (refused _) _ s tt))
-  starts-stand s row run p p' e e' h c (Starts.no_capacity st z a ep ee) = rw (ep, ee) (stays s _ _ _ run p e h a tt tt (dry-buffer (refused _) _ s tt))
-  starts-stand s row run p p' e e' h c (Starts.wrong_row st z l a ep ee) = rw (ep, ee) (stays s _ _ _ run p e h a tt tt (dry-buffer (refused _) _ s tt))
+  starts-stand s row run p p' e e' h c (Starts.not_fresh ns a ep ee) = rw (ep, ee) (stays s _ _ _ run p e h a (λ q. cc) tt (λ f b w m q. cc))
+  starts-stand s row run p p' e e' h c (Starts.no_capacity st z a ep ee) = rw (ep, ee) (stays s _ _ _ run p e h a (λ q. cc) tt (λ f b w m q. cc))
+  starts-stand s row run p p' e e' h c (Starts.wrong_row st z l a ep ee) = rw (ep, ee) (stays s _ _ _ run p e h a (λ q. cc) tt (λ f b w m q. cc))
   starts-stand s row run p p' e e' h c (Starts.refused_set f left st z l q a ep) =
-      stays s (refused (Set f)) (prices t) false run p' e' (rw ep (refreshed run p e e' h st)) (rw ep a) tt tt (dry-buffer (refused (Set f)) (prices t) s tt)
-  starts-stand s row run p p' e e' h c (Starts.begins left d w st z l q n ep a) = rw ep (moves s started left true run p p₁ e e' h (subst (λ z. Going z) (sym st) tt) tt (rw ep at a) tt
+      stays s (refused (Set f)) (prices t) false run p' e' (rw ep (refreshed run p e e' h st)) (rw ep a) (λ q. cc) tt (λ f b w m q. cc)
+  starts-stand s row run p p' e e' h c (Starts.begins left d w st z l q n ep a) = rw ep (moves s started left true run p p₁ e e' h (subst (λ z. Going z) (sym st) tt) (λ w q. cc) (rw ep at a) tt
       (record { rises = rw (fresh_at run p e h st) (omega arith); below = λ is pl. omega arith; total = omega arith })
-      (λ k ec em. absurd (not_more started tt em)) live)
+      (λ k ec em. cc) live)
     where
       v : Node
       v = new_node t.initial 0 0 0 w
@@ -240,57 +187,51 @@ module _ {E : Type 0} (est : Kind E) (lawful : Lawful est) (t : Model) (sound : 
       }
 
   advances-stand : (s : Exchange) (n : ℕ) (run : Run) (p p' : Plain) (e e' : E) → Stand run p e → s.call ≡ advance n → Advances est t N n p e s.answer p' e' → Stand (s ∷ run) p' e'
-  advances-stand s n run p p' e e' h c (Advances.not_running ns a ep ee) = rw (ep, ee) (stays s _ _ _ run p e h a tt tt (dry-buffer (refused _) _ s tt))
+  advances-stand s n run p p' e e' h c (Advances.not_running ns a ep ee) = rw (ep, ee) (stays s _ _ _ run p e h a (λ q. cc) tt (λ f b w m q. cc))
   advances-stand s n run p p' e e' h c (Advances.expands_all r tu a) =
       let v = expansions-live est lawful t sound N n p p' e e' (live_at run p e h r) tu in
-      moves s more [] true run p p' e e' h (subst (λ z. Going z) (sym r) tt) tt a tt
+      moves s more [] true run p p' e e' h (subst (λ z. Going z) (sym r) tt) (λ w q. cc) a tt
       (record { rises = v.1; below = v.0.below; total = live-total est lawful t sound N p' e' v.0 })
-      (λ k ec em. let z : n ≡ k = same_count n k (sym c ∙ ec) in omega (arith, v.2))
+      (λ k ec em. let z : n ≡ k = cc in omega (arith, v.2))
       (subst (λ st. Sits st (s ∷ run) p' e') (sym v.0.runs) v.0)
   advances-stand s n run p p' e e' h c (Advances.finds m x q r l tu f a) =
       let v = expansions-live est lawful t sound N m p q e e' (live_at run p e h r) tu in
       let b = finds-won est lawful t sound N q p' e' x v.0 f in
       let st : p'.status ≡ found x = ap (λ z. z.status) f.after in
-      moves s (found_plan (record { node = x; cost = (node q.nodes x).g })) [] false run p p' e e' h (subst (λ z. Going z) (sym r) tt) tt a (st, sym b.1)
+      moves s (found_plan (record { node = x; cost = (node q.nodes x).g })) [] false run p p' e e' h (subst (λ z. Going z) (sym r) tt) (λ w q. cc) a (st, sym b.1)
       (ended-after p q p' v.1 (finds-ended est lawful t sound N q p' e' x v.0 f))
-      (λ k ec em. absurd (not_more (found_plan (record { node = x; cost = (node q.nodes x).g })) tt em))
+      (λ k ec em. cc)
       (subst (λ z. Sits z (s ∷ run) p' e') (sym st) (b.0, inl (ap (λ z. z.outcome) a ∙ ap (λ (g : ℕ). found_plan (record { node = x; cost = g })) (sym b.1))))
   advances-stand s n run p p' e e' h c (Advances.exhausts m q r l tu em ep a) =
       let v = expansions-live est lawful t sound N m p q e e' (live_at run p e h r) tu in
-      rw ep (moves s no_plan [] false run p (record { status = none; nodes = q.nodes; bound = q.bound; total = q.total }) e e' h (subst (λ z. Going z) (sym r) tt) tt (rw ep at a) refl
+      rw ep (moves s no_plan [] false run p (record { status = none; nodes = q.nodes; bound = q.bound; total = q.total }) e e' h (subst (λ z. Going z) (sym r) tt) (λ w q. cc) (rw ep at a) refl
       (record { rises = v.1; below = v.0.below; total = live-total est lawful t sound N q e' v.0 })
-      (λ k ec emo. absurd (not_more no_plan tt emo))
+      (λ k ec emo. cc)
       (empty-none est lawful t sound N q e' v.0 em))
   advances-stand s n run p p' e e' h c (Advances.overflows m q d r l tu o a) =
       let v = expansions-live est lawful t sound N m p q e d (live_at run p e h r) tu in
       let b = overflows-filled est lawful t sound N q p' d e' v.0 o in
       let st : p'.status ≡ full = ap (λ z. z.status) o.after in
-      moves s out_of_room [] false run p p' e e' h (subst (λ z. Going z) (sym r) tt) tt a st
+      moves s out_of_room [] false run p p' e e' h (subst (λ z. Going z) (sym r) tt) (λ w q. cc) a st
       (ended-after p q p' v.1 b.1)
-      (λ k ec em. absurd (not_more out_of_room tt em))
+      (λ k ec em. cc)
       (subst (λ z. Sits z (s ∷ run) p' e') (sym st) b.0)
 
-  same_write : (f g : Find) (b c : List ℕ) → write f b ≡ write g c → b ≡ c
-  same_write f g b c q = cc
-
-  same-wrote : (v w : List ℕ) → written v ≡ written w → v ≡ w
-  same-wrote v w q = cc
-
   writes-stand : (s : Exchange) (f : Find) (buffer : List ℕ) (run : Run) (p : Plain) (e : E) → Stand run p e → s.call ≡ write f buffer → Writes text f buffer p s.answer → Stand (s ∷ run) p e
-  writes-stand s f buffer run p e h c (Writes.other o a) = stays s _ _ _ run p e h a tt tt (dry-buffer (refused _) _ s tt)
-  writes-stand s f buffer run p e h c (Writes.short is o w l a) = stays s _ _ _ run p e h a tt tt (dry-buffer (refused _) _ s tt)
+  writes-stand s f buffer run p e h c (Writes.other o a) = stays s _ _ _ run p e h a (λ q. cc) tt (λ f b w m q. cc)
+  writes-stand s f buffer run p e h c (Writes.short is o w l a) = stays s _ _ _ run p e h a (λ q. cc) tt (λ f b w m q. cc)
   writes-stand s f buffer run p e h c (Writes.writes is o w l a) =
-      stays s (written (text is f.cost)) _ _ run p e h a tt (f.node, is, o.ends, w, ap (λ z. text is z) (sym o.costs))
+      stays s (written (text is f.cost)) _ _ run p e h a (λ q. cc) (f.node, is, o.ends, w, ap (λ z. text is z) (sym o.costs))
       (λ g b v ec ew.
-      let eb : buffer ≡ b = same_write f g buffer b (sym c ∙ ec) in
-      let ev : text is f.cost ≡ v = same-wrote (text is f.cost) v ew in
+      let eb : buffer ≡ b = cc in
+      let ev : text is f.cost ≡ v = cc in
       subst (λ z. WrittenInto t N text z (text is f.cost ++ drop (length (text is f.cost)) buffer) v) eb
       (subst (λ z. WrittenInto t N text buffer (text is f.cost ++ drop (length (text is f.cost)) buffer) z) ev (record { fits = l; is = refl })))
 
   does-stand : (c : Call) (s : Exchange) (run : Run) (p p' : Plain) (e e' : E) → Stand run p e → s.call ≡ c → Does est t N text c p e s.answer p' e' → Stand (s ∷ run) p' e'
   does-stand (start row) s run p p' e e' h c d = starts-stand s row run p p' e e' h c d
   does-stand (advance n) s run p p' e e' h c d = advances-stand s n run p p' e e' h c d
-  does-stand read s run p p' e e' h c d = rw (d.1, d.2) (stays s bound_read _ _ run p e h d.0 tt tt (dry-buffer bound_read _ s tt))
+  does-stand read s run p p' e e' h c d = rw (d.1, d.2) (stays s bound_read _ _ run p e h d.0 (λ q. cc) tt (λ f b w m q. cc))
   does-stand (write f buffer) s run p p' e e' h c d = rw (d.1, d.2) (writes-stand s f buffer run p e h c d.0)
 
   reached-stand : (e₀ : E) (run : Run) (p : Plain) (e : E) → Reached est t N text e₀ run p e → Stand run p e
@@ -309,7 +250,8 @@ module _ {E : Type 0} (est : Kind E) (lawful : Lawful est) (t : Model) (sound : 
           cheapest = rw f.1 w.0.cheapest;
           texts = λ u k.
               let g = h.outcome (written u) k in
-              let y : g.0 ≡ o.node = same-find g.0 o.node (sym g.2 ∙ f.0) in
+              let e = sym g.2 ∙ f.0 in
+              let y : g.0 ≡ o.node = cc in
               g.4 ∙ same_text o.node g.0 g.1 w.0.plan o.cost y g.3 w.0.path f.1;
         };
     writes = λ u k.
@@ -321,9 +263,6 @@ module _ {E : Type 0} (est : Kind E) (lawful : Lawful est) (t : Model) (sound : 
     every = h.every;
   }
     where
-      same-find : (a b : ℕ) → found a ≡ found b → a ≡ b
-      same-find a b q = cc
-
       same_text : (x y : ℕ) (is js : List ℕ) (c : ℕ) → y ≡ x → PathTo p.nodes y is → PathTo p.nodes x js → c ≡ (node p.nodes x).g → text is (node p.nodes y).g ≡ text js c
       same_text x y is js c q v w e = rw (q, e) (ap (λ z. text z (node p.nodes x).g) (path-one p.nodes x is js (rw q at v) w))
 

@@ -3,21 +3,18 @@ use Rattle.std.specs.Prelude.{◌≡◌, ℕ, zero, suc, ◌+◌, ◌<◌, ◌�
 use Rattle.tables.specs.declared.cause.Cause.{Cause}
 use Rattle.tables.specs.declared.cause.Cause.TheVariants as cause
 use Rattle.task.specs.Model.{Model, prices, IsGoal, Applies, applied}
-use Rattle.estimator.specs.Laws.{Laws, HoldsT, SetsT, AnswersT}
+use Rattle.estimator.specs.Laws.{Meaning, Laws}
 use Rattle.estimator.specs.declared.fault.SetFault.{SetFault}
 use Rattle.plain.specs.declared.fault.Fault.{Fault}
 use Rattle.plain.specs.declared.fault.Fault.TheVariants.{Own, Set}
 
 -- a kind of estimator, by what one in a state of E may do
-pub record Kind (E : Type 0) : Type 1 where
-  pub unset : E → Type 0
-  pub holds : HoldsT E
-  pub sets : SetsT E
-  pub answers : AnswersT E
+abbrev pub Kind : Type 0 → Type 1
+Kind E = Meaning E
 
 -- it keeps to the laws of estimators
 abbrev pub Lawful : {E : Type 0} → Kind E → Type 0
-Lawful k = Laws k.unset k.holds k.sets k.answers
+Lawful k = Laws k
 
 -- a held state: its path cost g, the node and the operator that it came from at this cost, and its estimate while it is in the open list
 pub record Node : Type 0 where

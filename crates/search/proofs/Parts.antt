@@ -19,7 +19,7 @@ drop-cut n m xs e = side (lt-or-le n (length xs))
     side (inl l) = let q : m ≡ n = omega arith in ap (λ k. drop k xs) q
     side (inr l) = let q : m ≡ length xs = omega arith in ap (λ k. drop k xs) q ∙ drop-length xs ∙ sym (drop_of_length-le xs l)
 
-module _ (p : Part) (xs : List ℕ) (a n k : ℕ) (ea : a ≡ min p.from (length xs)) (en : n ≡ min p.len (length xs - a)) (ek : k ≡ n) where
+module _ (p : Part) (xs : List ℕ) (a k : ℕ) (ea : a ≡ min p.from (length xs)) (ek : k ≡ min p.len (length xs - a)) where
   rest : k ≡ min p.len (length (drop a xs))
   rest = let l = length-drop a xs in omega arith
 

@@ -33,7 +33,7 @@ tree-prop p q = λ i. record {
 stands-prop : (t : Model) (s : Core) (st : Status) → IsProp (Standing t s st)
 stands-prop t s Fresh p q = λ i. (≡_prop coded_ℕ _ _ p.0 q.0 i, ≡_prop coded_ℕ _ _ p.1 q.1 i, ≡_prop coded_ℕ _ _ p.2 q.2 i)
 stands-prop t s Running p q = λ i. (limits-prop p.0 q.0 i, tree-prop p.1 q.1 i)
-stands-prop t s (Found x) p q = λ i. (le_prop p.0 q.0 i, tree-prop p.1 q.1 i)
+stands-prop t s (Found f) p q = λ i. (le_prop p.0 q.0 i, ≡_prop coded_ℕ _ _ p.1 q.1 i, tree-prop p.2 q.2 i)
 stands-prop t s NoPlan p q = λ i. tt
 stands-prop t s Full p q = λ i. tt
 

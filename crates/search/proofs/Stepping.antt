@@ -1,8 +1,8 @@
 -- One step of the search in the words of the plain search.
-use Rattle.std.proofs.Common.{◌≡◌, ℕ, zero, suc, ◌+◌, ◌-◌, ◌*◌, ◌^◌, ◌<◌, ◌≤◌, max, List, length, set, sym, refl, ap, ◌∙◌, subst, mul-le-mul_right, mul-le-mul_left, add-one, arith, length-set, get_or-set_same}
+use Rattle.std.proofs.Common.{◌≡◌, ℕ, zero, suc, ◌+◌, ◌-◌, ◌*◌, ◌^◌, ◌<◌, ◌≤◌, max, List, length, set, Ok, Err, Result, sym, refl, ap, ◌∙◌, subst, mul-le-mul_right, mul-le-mul_left, add-one, arith, get_or-set_same}
 use Rattle.task.specs.Model.{Model, prices, dearest, IsGoal}
 use Rattle.plain.specs.Plain as plain
-use Rattle.plain.specs.Plain.{Plain, GeneratesAll, Expands, Finds, Overflows, Expansions}
+use Rattle.plain.specs.Plain.{Plain, Least, GeneratesAll, Expands, Finds, Overflows, Expansions}
 use Rattle.plain.proofs.Placed.{set-placed}
 use Rattle.plain.proofs.Budget.{budget-take, budget-total}
 use Rattle.queue.specs.declared.entries.SearchEntry.{SearchEntry}
@@ -10,8 +10,29 @@ use Rattle.search.specs.declared.inner.Core.{Core}
 use Rattle.search.specs.declared.inner.Status.TheVariants.{Running}
 use Rattle.memory.specs.Rows.{nodes_of, TakenFirst}
 use Rattle.memory.specs.Steps.{NoRoom, WithinLimits}
+use Rattle.memory.specs.Expanded.{ExpandsTo}
+use Rattle.memory.specs.declared.full.Full.{Full}
 use Rattle.search.specs.Search.{plain_of, status_of, ended}
-use Rattle.memory.proofs.Tried.{by_place, limits-generates}
+use Rattle.memory.specs.Trees.{ParentTree}
+use Rattle.memory.specs.declared.memory.Memory.{Memory}
+use Rattle.memory.proofs.Held.{count_of}
+use Rattle.memory.proofs.Tried.{by_place}
+use Rattle.memory.proofs.Trees.{tree-take}
+
+-- taking the least entry out keeps the limits, with one expansion more
+pub take-limits : (t : Model) (N total x h : ℕ) (ns : List plain.Node) → Least ns x h → WithinLimits t N total ns → WithinLimits t N (total + 1) (set ns x (plain.dequeued (plain.node ns x)))
+take-limits t N total x h ns least limits =
+    let v = plain.dequeued (plain.node ns x) in
+    let l = least.in_queue.0 in
+    record {
+      low = by_place ns (set ns x v) x (dearest (prices t)) v (set-placed ns x v l) limits.low (limits.low x l);
+      budget = budget-take N (dearest (prices t)) total ns x h v l refl refl least.in_queue.1 limits.budget;
+    }
+
+-- an expansion, whole or not, applies the first operators of the task, so many of them
+pub expanded-some : {E : Type 0} (est : plain.Kind E) (t : Model) (N x : ℕ) (ns : List plain.Node) (e : E) (r : Result (Unit {0}) Full) (ns' : List plain.Node) (e' : E) → ExpandsTo est t N x ns e r ns' e' → (n : ℕ) × GeneratesAll est t N x 0 n ns e ns' e'
+expanded-some est t N x ns e (Ok _) ns' e' h = (length t.operators, h)
+expanded-some est t N x ns e (Err full) ns' e' h = (full.operator, h.0)
 
 module _ (ns : List plain.Node) (top : SearchEntry) (ms : List plain.Node) (taken : TakenFirst ns top ms) where
   taken_at : plain.node ms top.node ≡ plain.dequeued (plain.node ns top.node)
@@ -23,15 +44,19 @@ module _ (ns : List plain.Node) (top : SearchEntry) (ms : List plain.Node) (take
   pub taken-g : (plain.node ms top.node).g ≡ (plain.node ns top.node).g
   taken-g = ap (λ z. z.g) taken_at
 
+  pub taken-inside : (m m' : Memory) → nodes_of m ≡ ns → m'.held ≡ m.held → top.node < m'.held
+  taken-inside m m' e h = let l = taken.inside in let n = count_of m in let k = ap length e in omega arith
+
+  -- the limits hold with one expansion more, and so with none more
   pub taken-limits : (t : Model) (N total : ℕ) → WithinLimits t N total ns → WithinLimits t N (total + 1) ms
-  taken-limits t N total h =
-      let x = top.node in
-      let v = plain.dequeued (plain.node ns x) in
-      let l = taken.inside in
-      subst (λ z. WithinLimits t N (total + 1) z) (sym taken.after) (record {
-        low = by_place ns (set ns x v) x (dearest (prices t)) v (set-placed ns x v l) h.low (h.low x l);
-        budget = budget-take N (dearest (prices t)) total ns x top.estimate v l refl refl taken.least.in_queue.1 h.budget;
-      })
+  taken-limits t N total h = subst (λ z. WithinLimits t N (total + 1) z) (sym taken.after) (take-limits t N total top.node top.estimate ns taken.least h)
+
+  pub taken-tree : ParentTree ns → ParentTree ms
+  taken-tree h = subst ParentTree (sym taken.after) (tree-take ns top.node taken.inside h)
+
+-- limits of a greater count are limits of a lesser one
+pub fewer-limits : (t : Model) (N total : ℕ) (ns : List plain.Node) → WithinLimits t N (total + 1) ns → WithinLimits t N total ns
+fewer-limits t N total ns h = record { low = h.low; budget = record { within = h.budget.within; paid = let p = h.budget.paid in omega arith } }
 
 pub limits-small : (t : Model) (N total : ℕ) (ns : List plain.Node) → WithinLimits t N total ns → N ≤ 65535 → dearest (prices t) ≤ 65535 → total < 2 ^ 60
 limits-small t N total ns h ln lk =
@@ -87,18 +112,7 @@ module _ {E : Type 0} (est : plain.Kind E) (t : Model) (N : ℕ) (s s' : Core) (
     after = λ j. record { status = plain.full; nodes = nodes_of s'.memory; bound = bounds s'.bound eb j; total = et j };
   }
 
--- the counts over expansions
-pub expands-limits : {E : Type 0} (est : plain.Kind E) (t : Model) (N : ℕ) (p q : Plain) (e d : E) → WithinLimits t N p.total p.nodes → Expands est t N p e q d → WithinLimits t N q.total q.nodes
-expands-limits est t N p q e d h x =
-    let ns = p.nodes in
-    let v = plain.dequeued (plain.node ns x.x) in
-    let l = x.least.in_queue.0 in
-    let h₁ : WithinLimits t N (p.total + 1) (set ns x.x v) = record {
-      low = by_place ns (set ns x.x v) x.x (dearest (prices t)) v (set-placed ns x.x v l) h.low (h.low x.x l);
-      budget = budget-take N (dearest (prices t)) p.total ns x.x x.h v l refl refl x.least.in_queue.1 h.budget;
-    } in
-    subst (λ z. WithinLimits t N z.total z.nodes) (sym x.after) (limits-generates est t N (length t.operators) (p.total + 1) x.x 0 (set ns x.x v) x.nodes e d (simp length-set l) h₁ x.generates).0
-
+-- one expansion more
 pub expansions-snoc : {E : Type 0} (est : plain.Kind E) (t : Model) (N n : ℕ) (p q r : Plain) (e d f : E) → Expansions est t N n p e q d → Expands est t N q d r f → Expansions est t N (n + 1) p e r f
 expansions-snoc {E} est t N n p q r e d f h x = rw add-one (go n p e h)
   where

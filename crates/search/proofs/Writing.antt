@@ -1,34 +1,23 @@
--- What a status says: when a find is the search's own, and when a search is not fresh or not running.
-use Rattle.std.proofs.Common.{◌≡◌, ℕ, sym, refl, ap, ◌∙◌, arith}
+-- What a status says: when a find is the search's own.
+use Rattle.std.proofs.Common.{◌≡◌, ℕ, sym, ap, ◌∙◌}
+use Rattle.task.specs.Model.{Model}
 use Rattle.plain.specs.Plain as plain
+use Rattle.memory.specs.Rows.{nodes_of}
+use Rattle.search.specs.declared.answer.Find.{Find}
 use Rattle.search.specs.declared.inner.Core.{Core}
 use Rattle.search.specs.declared.inner.Status.{Status}
 use Rattle.search.specs.declared.inner.Status.TheVariants.{Fresh, Running, Found, NoPlan, Full}
-use Rattle.search.specs.Search.{plain_of, status_of}
+use Rattle.search.specs.Search.{plain_of, find_of, status_of, Standing, Valid}
 
-status-found : (st : Status) (y : ℕ) → status_of st ≡ plain.found y → st ≡ Found y
-status-found Fresh y e = absurd (let z : ◌≡◌ {A = ℕ} 0 1 = cc in omega arith)
-status-found Running y e = absurd (let z : ◌≡◌ {A = ℕ} 0 1 = cc in omega arith)
-status-found (Found x) y e = let z : x ≡ y = cc in ap Found z
-status-found NoPlan y e = absurd (let z : ◌≡◌ {A = ℕ} 0 1 = cc in omega arith)
-status-found Full y e = absurd (let z : ◌≡◌ {A = ℕ} 0 1 = cc in omega arith)
+found-is : (t : Model) (s : Core) (f : Find) (st : Status) → Standing t s st → status_of st ≡ plain.found f.node → (plain.node (nodes_of s.memory) f.node).g ≡ f.cost → st ≡ Found f
+found-is t s f Fresh h e c = cc
+found-is t s f Running h e c = cc
+found-is t s f (Found x) h e c =
+    let n : x.node ≡ f.node = cc in
+    let q : x.cost ≡ f.cost = sym h.1 ∙ ap (λ (k : ℕ). (plain.node (nodes_of s.memory) k).g) n ∙ c in
+    λ i. Found (record { node = n i; cost = q i })
+found-is t s f NoPlan h e c = cc
+found-is t s f Full h e c = cc
 
-pub not_own : (s : Core) (f : plain.Find) → ((x : ℕ) → s.status ≡ Found x → ⊥) → plain.OwnFind (plain_of s) f → ⊥
-not_own s f h o = h f.node (status-found s.status f.node o.ends)
-
-pub own-node : (s : Core) (f : plain.Find) (x : ℕ) → s.status ≡ Found x → plain.OwnFind (plain_of s) f → x ≡ f.node
-own-node s f x e o = let q : Found x ≡ Found f.node = sym e ∙ status-found s.status f.node o.ends in cc
-
-pub not-fresh : (st : Status) → (st ≡ Fresh → ⊥) → status_of st ≡ plain.fresh → ⊥
-not-fresh Fresh h e = h refl
-not-fresh Running h e = let z : ◌≡◌ {A = ℕ} 0 1 = cc in omega arith
-not-fresh (Found x) h e = let z : ◌≡◌ {A = ℕ} 0 1 = cc in omega arith
-not-fresh NoPlan h e = let z : ◌≡◌ {A = ℕ} 0 1 = cc in omega arith
-not-fresh Full h e = let z : ◌≡◌ {A = ℕ} 0 1 = cc in omega arith
-
-pub not-running : (st : Status) → (st ≡ Running → ⊥) → status_of st ≡ plain.running → ⊥
-not-running Fresh h e = let z : ◌≡◌ {A = ℕ} 0 1 = cc in omega arith
-not-running Running h e = h refl
-not-running (Found x) h e = let z : ◌≡◌ {A = ℕ} 0 1 = cc in omega arith
-not-running NoPlan h e = let z : ◌≡◌ {A = ℕ} 0 1 = cc in omega arith
-not-running Full h e = let z : ◌≡◌ {A = ℕ} 0 1 = cc in omega arith
+pub not_own : (t : Model) (s : Core) (f : Find) → Valid t s → (s.status ≡ Found f → ⊥) → plain.OwnFind (plain_of s) (find_of f) → ⊥
+not_own t s f v h o = h (found-is t s f s.status v.stands o.ends o.costs)

@@ -1,6 +1,7 @@
 -- Calls given as data, their replies, and the run that they are.
-use Rattle.std.specs.Prelude.{◌≡◌, ℕ, ◌+◌, false, List, [], ◌∷◌, ◌++◌, length, take, drop, Ok, Err, Result, slice_index_or}
+use Rattle.std.specs.Prelude.{◌≡◌, ℕ, ◌+◌, Bool, false, Some, None, Option, List, [], ◌∷◌, ◌++◌, length, take, drop, Ok, Err, Result, slice_index_or}
 use Rattle.tables.specs.declared.cause.Cause.{Cause}
+use Rattle.plain.specs.declared.fault.Fault.{Fault}
 use Rattle.plain.specs.declared.fault.Fault.TheVariants.{Own}
 use Rattle.task.specs.Model.{Model}
 use Rattle.plain.specs.Plain as plain
@@ -15,20 +16,31 @@ use Rattle.search.specs.declared.data.Reply.{Reply}
 use Rattle.search.specs.Search.{find_of}
 
 -- what a word of a reply says
-abbrev pub SaysOutcome : Outcome → plain.Outcome → Type 0
-SaysOutcome (words.Refused f) s = plain.refused f ≡ s
-SaysOutcome words.Started s = plain.started ≡ s
-SaysOutcome words.More s = plain.more ≡ s
-SaysOutcome (words.Found f) s = plain.found_plan (find_of f) ≡ s
-SaysOutcome words.NoPlan s = plain.no_plan ≡ s
-SaysOutcome words.Full s = plain.out_of_room ≡ s
-SaysOutcome words.Bound s = plain.bound_read ≡ s
-SaysOutcome (words.Written n) s = (w : List ℕ) × (s ≡ plain.written w) × (n ≡ length w)
+abbrev pub SaysOutcome : Result Outcome Fault → plain.Outcome → Type 0
+SaysOutcome (Err f) s = plain.refused f ≡ s
+SaysOutcome (Ok words.Started) s = plain.started ≡ s
+SaysOutcome (Ok words.More) s = plain.more ≡ s
+SaysOutcome (Ok (words.Found f)) s = plain.found_plan (find_of f) ≡ s
+SaysOutcome (Ok words.NoPlan) s = plain.no_plan ≡ s
+SaysOutcome (Ok words.Full) s = plain.out_of_room ≡ s
+SaysOutcome (Ok words.Bound) s = plain.bound_read ≡ s
+SaysOutcome (Ok (words.Written n)) s = (w : List ℕ) × (s ≡ plain.written w) × (n ≡ length w)
 
--- the outcome of a writing is its result
-abbrev pub SaysResult : Result ℕ Cause → Outcome → Type 0
-SaysResult (Ok n) s = s ≡ words.Written n
-SaysResult (Err c) s = s ≡ words.Refused (Own c)
+-- what a reply says: the outcome, whether a go-ahead is handed out or back, and the bound and the total, if they are reported
+pub record Says (r : Reply) (outcome : plain.Outcome) (go : Bool) (bound total : Option ℕ) : Type 0 where
+  pub says : SaysOutcome r.outcome outcome
+  pub hands : r.go ≡ go
+  pub bounds : r.bound ≡ bound
+  pub totals : r.total ≡ total
+
+-- the reply with this outcome that reports no numbers
+abbrev pub quiet : Result Outcome Fault → Bool → Reply
+quiet o go = record { outcome = o; go = go; bound = None; total = None }
+
+-- the reply of a writing is its result
+abbrev pub SaysResult : Result ℕ Cause → Reply → Type 0
+SaysResult (Ok n) r = r ≡ quiet (Ok (words.Written n)) false
+SaysResult (Err c) r = r ≡ quiet (Err (Own c)) false
 
 -- a part of a lent row or buffer, and the row or buffer with other content there
 abbrev pub part_of : Part → List ℕ → List ℕ
@@ -49,21 +61,25 @@ CallMade (calls.Advance n) a s b = (s.call ≡ plain.advance n) × (b ≡ a)
 CallMade calls.Read a s b = (s.call ≡ plain.read) × (b ≡ a)
 CallMade (calls.Write x c p) a s b = (s.call ≡ plain.write (record { node = x; cost = c }) (part_of p a.buffer)) × (b.row ≡ a.row) × (b.buffer ≡ with_part p a.buffer s.answer.after)
 
--- the numbers that a call reports
-abbrev pub Reports : Call → Reply → Answer → Type 0
-Reports (calls.Start p) r a = Unit {0}
-Reports (calls.Advance n) r a = (r.bound ≡ a.bound) × (r.total ≡ a.total)
-Reports calls.Read r a = r.bound ≡ a.bound
-Reports (calls.Write x c p) r a = Unit {0}
+-- the bound that a call reports, and the total of expansions
+abbrev pub told_bound : Call → Answer → Option ℕ
+told_bound (calls.Start p) a = None
+told_bound (calls.Advance n) a = Some a.bound
+told_bound calls.Read a = Some a.bound
+told_bound (calls.Write x c p) a = None
 
-pub record ReplyOf (c : Call) (r : Reply) (a : Answer) : Type 0 where
-  pub outcome : SaysOutcome r.outcome a.outcome
-  pub go : r.go ≡ a.go
-  pub tells : Reports c r a
+abbrev pub told_total : Call → Answer → Option ℕ
+told_total (calls.Start p) a = None
+told_total (calls.Advance n) a = Some a.total
+told_total calls.Read a = None
+told_total (calls.Write x c p) a = None
+
+abbrev pub ReplyOf : Call → Reply → Answer → Type 0
+ReplyOf c r a = Says r a.outcome a.go (told_bound c a) (told_total c a)
 
 -- a writing into a part of the buffer, with its reply
 abbrev pub WritesPart : (List ℕ → ℕ → List ℕ) → plain.Find → Part → List ℕ → Plain → Reply → List ℕ → Type 0
-WritesPart text f part b p r b' = (a : Answer) × plain.Writes text f (part_of part b) p a × SaysOutcome r.outcome a.outcome × (r.go ≡ a.go) × (b' ≡ with_part part b a.after)
+WritesPart text f part b p r b' = (a : Answer) × plain.Writes text f (part_of part b) p a × Says r a.outcome a.go None None × (b' ≡ with_part part b a.after)
 
 -- one call, with its reply
 pub record OneCall {E : Type 0} (est : Kind E) (t : Model) (N : ℕ) (text : List ℕ → ℕ → List ℕ) (c : Call) (row : Lent) (p : Plain) (e : E) (r : Reply) (row' : Lent) (p' : Plain) (e' : E) : Type 0 where
@@ -73,7 +89,7 @@ pub record OneCall {E : Type 0} (est : Kind E) (t : Model) (N : ℕ) (text : Lis
   pub does : plain.Does est t N text step.call p e step.answer p' e'
 
 abbrev pub zero_node : Reply
-zero_node = record { outcome = words.Started; go = false; bound = 0; total = 0 }
+zero_node = quiet (Ok words.Started) false
 
 -- what stands past the last call
 abbrev pub no_call : Call

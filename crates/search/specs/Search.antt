@@ -13,6 +13,7 @@ use Rattle.search.specs.declared.inner.Event.TheVariants.{Expanded, Goal, Empty,
 use Rattle.tables.specs.declared.cause.Cause.TheVariants as cause
 use Rattle.plain.specs.declared.fault.Fault.{Fault}
 use Rattle.search.specs.declared.answer.Progress.{Progress}
+use Rattle.search.specs.declared.answer.Refused.{Refused}
 use Rattle.search.specs.declared.answer.Progress.TheVariants as words
 use Rattle.memory.specs.Rows.{nodes_of, Consistent}
 use Rattle.memory.specs.Steps.{WithinLimits}
@@ -21,7 +22,7 @@ use Rattle.memory.specs.Trees.{ParentTree}
 abbrev pub status_of : Status → plain.Status
 status_of statuses.Fresh = plain.fresh
 status_of statuses.Running = plain.running
-status_of (statuses.Found x) = plain.found x
+status_of (statuses.Found f) = plain.found f.node
 status_of statuses.NoPlan = plain.none
 status_of statuses.Full = plain.full
 
@@ -41,19 +42,19 @@ start_go_ahead (Ok g) = true
 start_go_ahead (Err f) = false
 
 -- what an advance says, and whether the go-ahead comes back
-abbrev pub outcome_of : Progress → plain.Outcome
-outcome_of (words.More g) = plain.more
-outcome_of (words.Found f) = plain.found_plan (find_of f)
-outcome_of words.NoPlan = plain.no_plan
-outcome_of words.Full = plain.out_of_room
-outcome_of (words.Refused c g) = plain.refusal c
+abbrev pub outcome_of : Result Progress Refused → plain.Outcome
+outcome_of (Ok (words.More g)) = plain.more
+outcome_of (Ok (words.Found f)) = plain.found_plan (find_of f)
+outcome_of (Ok words.NoPlan) = plain.no_plan
+outcome_of (Ok words.Full) = plain.out_of_room
+outcome_of (Err r) = plain.refusal r.cause
 
-abbrev pub go_ahead_of : Progress → Bool
-go_ahead_of (words.More g) = true
-go_ahead_of (words.Found f) = false
-go_ahead_of words.NoPlan = false
-go_ahead_of words.Full = false
-go_ahead_of (words.Refused c g) = true
+abbrev pub go_ahead_of : Result Progress Refused → Bool
+go_ahead_of (Ok (words.More g)) = true
+go_ahead_of (Ok (words.Found f)) = false
+go_ahead_of (Ok words.NoPlan) = false
+go_ahead_of (Ok words.Full) = false
+go_ahead_of (Err r) = true
 
 -- the search with another status
 abbrev pub ended : plain.Status → Plain → Plain
@@ -84,9 +85,9 @@ abbrev pub with_status : Core → Status → Core
 with_status s st = record { memory = s.memory; status = st; bound = s.bound; total = s.total }
 
 -- a running search goes on to the status of the event; any other refuses and stays
-abbrev pub Concludes : Core → Status → Event → Progress → Core → Type 0
+abbrev pub Concludes : Core → Status → Event → Result Progress Refused → Core → Type 0
 Concludes s statuses.Running Expanded r s' = (s' ≡ s) × (outcome_of r ≡ plain.more) × (go_ahead_of r ≡ true)
-Concludes s statuses.Running (Goal f) r s' = (s' ≡ with_status s (statuses.Found f.node)) × (outcome_of r ≡ plain.found_plan (find_of f)) × (go_ahead_of r ≡ false)
+Concludes s statuses.Running (Goal f) r s' = (s' ≡ with_status s (statuses.Found f)) × (outcome_of r ≡ plain.found_plan (find_of f)) × (go_ahead_of r ≡ false)
 Concludes s statuses.Running Empty r s' = (s' ≡ with_status s statuses.NoPlan) × (outcome_of r ≡ plain.no_plan) × (go_ahead_of r ≡ false)
 Concludes s statuses.Running Overflow r s' = (s' ≡ with_status s statuses.Full) × (outcome_of r ≡ plain.out_of_room) × (go_ahead_of r ≡ false)
 Concludes s statuses.Fresh event r s' = (s' ≡ s) × (outcome_of r ≡ plain.refusal cause.Order) × (go_ahead_of r ≡ true)
@@ -98,7 +99,7 @@ Concludes s statuses.Full event r s' = (s' ≡ s) × (outcome_of r ≡ plain.ref
 abbrev pub Standing : Model → Core → Status → Type 0
 Standing t s statuses.Fresh = (s.memory.held ≡ 0) × (s.bound ≡ 0) × (s.total ≡ 0)
 Standing t s statuses.Running = WithinLimits t s.memory.capacity s.total (nodes_of s.memory) × ParentTree (nodes_of s.memory)
-Standing t s (statuses.Found x) = (x < s.memory.held) × ParentTree (nodes_of s.memory)
+Standing t s (statuses.Found f) = (f.node < s.memory.held) × ((plain.node (nodes_of s.memory) f.node).g ≡ f.cost) × ParentTree (nodes_of s.memory)
 Standing t s statuses.NoPlan = Unit {0}
 Standing t s statuses.Full = Unit {0}
 

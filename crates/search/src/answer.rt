@@ -1,6 +1,8 @@
 // What the calls hand out.
 ghost use Rattle.std.specs.Prelude.{◌≡◌};
+ghost use Rattle.plain.specs.declared.fault.Fault.TheVariants.{Own};
 
+use plain::fault::Fault;
 use tables::cause::Cause;
 
 // The right to advance a running search. Only a start makes one, and an advance that ends the search uses it up.
@@ -15,8 +17,9 @@ impl GoAhead {
     }
 }
 
-// A plan that was found: its goal node, and its cost.
-#[derive(Clone, Copy)]
+// A plan that was found: its goal node, and its cost. Callers read them by methods, since with public fields anyone
+// could make a find.
+#[derive(Clone, Copy, PartialEq, Eq)]
 pub struct Find {
     pub(crate) node: u32,
     pub(crate) cost: u32,
@@ -36,20 +39,34 @@ impl Find {
     }
 }
 
-// What an advance comes to: the go-ahead comes back with More and with a refusal only.
+// What an advance comes to: the go-ahead comes back with More only.
 #[derive(Drop)]
 pub enum Progress {
     More(GoAhead),
     Found(Find),
     NoPlan,
     Full,
-    Refused(Cause, GoAhead),
+}
+
+// Why an advance is refused, and the go-ahead, which comes back.
+#[derive(Drop)]
+pub struct Refused {
+    pub cause: Cause,
+    pub go: GoAhead,
+}
+
+impl From<Refused> for Fault {
+    ghost from_gives = { λ refused fault. fault ≡ Own refused.cause };
+
+    fn from(refused: Refused) -> Fault {
+        Fault::Own(refused.cause)
+    }
 }
 
 // An advance's answer, with the bound on the cost of every plan and the expansions made since opening.
 #[derive(Drop)]
 pub struct Advanced {
-    pub progress: Progress,
+    pub progress: Result<Progress, Refused>,
     pub bound: u64,
     pub total: u64,
 }

@@ -2,9 +2,9 @@
 
 pub mod advance;
 pub mod answer;
-pub mod calls;
 pub mod data;
 pub mod inner;
+pub mod open;
 pub mod replay;
 pub mod search;
 pub mod start;

@@ -1,48 +1,42 @@
 // The start of a search.
-ghost use Rattle.std.specs.Prelude.{◌≡◌, ℕ, ◌+◌, ◌<◌, ◌≤◌, [], ◌∷◌, length, Option as Maybe};
+ghost use Rattle.std.specs.Prelude.{◌≡◌};
 ghost use Rattle.task.specs.Model.{model};
-ghost use Rattle.plain.specs.Plain.{new_node, Starts, reports};
-ghost use Rattle.memory.specs.Rows.{Consistent, Untouched, nodes_of};
-ghost use Rattle.memory.specs.Steps.{kind_of};
-ghost use Rattle.search.specs.Search.{plain_of, Valid, start_outcome, start_go_ahead};
+ghost use Rattle.plain.specs.Plain.{Starts, reports};
+ghost use Rattle.memory.specs.Rows.{Untouched};
+ghost use Rattle.search.specs.Search.{plain_of, start_outcome, start_go_ahead};
 
 use crate::answer::GoAhead;
-use crate::inner::{Core, Status};
+use crate::inner::Status;
+use crate::search::Search;
 use estimator::estimator::Estimator;
 use plain::fault::Fault;
 use tables::cause::Cause;
-use task::task::Task;
 
-impl<'a> Core<'a> {
-    // Offers the task's prices to the estimator, and holds the initial state.
+impl<'a> Search<'a> {
+    // Sets the estimator on the task, and puts the initial state into the open list.
     pub fn start<E: Estimator>(
         &mut self,
-        task: &Task<'_>,
         row: &mut [u32],
         estimator: &mut E,
     ) -> Result<GoAhead, Fault>
-        requires { Valid (model task.now) self.old }
-        ensures valid { Valid (model task.now) self.new }
-        ensures untouched { Untouched self.old.memory self.new.memory }
-        ensures does { Starts (kind_of E.Estimator.unset E.Estimator.holds E.Estimator.sets E.Estimator.answers) (model task.now) self.old.memory.capacity row.old (plain_of self.old) estimator.old (reports (start_outcome result) row.new (start_go_ahead result) (plain_of self.new)) (plain_of self.new) estimator.new }
+        ensures same { self.new.task ≡ self.old.task }
+        ensures untouched { Untouched self.old.core.memory self.new.core.memory }
+        ensures does { Starts E.meaning (model self.old.task) self.old.core.memory.capacity row.old (plain_of self.old.core) estimator.old (reports (start_outcome result) row.new (start_go_ahead result) (plain_of self.new.core)) (plain_of self.new.core) estimator.new }
     {
-        match self.status {
-            Status::Fresh => {}
-            _ => return Err(Fault::Own(Cause::Order)),
+        if self.core.status != Status::Fresh {
+            return Err(Cause::Order.into());
         }
-        if self.memory.capacity == 0 {
-            return Err(Fault::Own(Cause::Room));
+        if self.core.memory.capacity == 0 {
+            return Err(Cause::Room.into());
         }
+        // Copied: a field of a struct with a ghost field is not lent while another is written.
+        let task = self.task;
         if !task.prices_into(row) {
-            return Err(Fault::Own(Cause::Row));
+            return Err(Cause::Row.into());
         }
-        if let Err(fault) = estimator.set(task, row, 1) {
-            return Err(Fault::Set(fault));
-        }
-        let mut state = [0u8; 32];
-        let width = self.memory.variables;
-        self.memory.root(task, estimator, &mut state[0..width]);
-        self.status = Status::Running;
+        estimator.set(&task, row, 1)?;
+        self.core.memory.root(&task, estimator);
+        self.core.status = Status::Running;
         Ok(GoAhead::give())
     }
 }

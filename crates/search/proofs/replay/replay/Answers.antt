@@ -2,7 +2,6 @@
 use Rattle.std.proofs.Common.{get_or, ◌∙◌, subst, arith}
 use Rattle.task.specs.Model.{model}
 use Rattle.search.specs.Replay.{OneCall, no_call}
-use Rattle.memory.specs.Steps.{kind_of}
 use Rattle.search.specs.Search.{plain_of}
 use Rattle.memory.specs.Plans.{plan_text}
 use Rattle.search.proofs.Replays.{again, lawfully}
@@ -14,7 +13,7 @@ loop-place-preserved g c =
     let s = c.loop-place.search in
     let s' = c.make.new.self in
     let v = c.loop-place.invariant in
-    let est = kind_of g.E.Estimator.unset g.E.Estimator.holds g.E.Estimator.sets g.E.Estimator.answers in (
+    let est = g.E.Estimator.meaning in (
       c.make.ensures.same ∙ v.0,
       c.make.ensures.untouched.capacity ∙ v.1,
       λ q. again est s₀.task s.task s₀.core.memory.capacity s.core.memory.capacity (plan_text s₀.task) c.args.calls.now c.loop-place.replies (record { row = c.args.row.now; buffer = c.args.buffer.now }) (record { row = c.loop-place.row; buffer = c.loop-place.buffer }) (record { row = c.make.new.row; buffer = c.make.new.buffer }) c.loop-place.place c.make.result
@@ -24,6 +23,6 @@ loop-place-preserved g c =
 pub returns : goal.returns
 returns g c = λ q.
     let s₀ = c.args.search.now in
-    let est = kind_of g.E.Estimator.unset g.E.Estimator.holds g.E.Estimator.sets g.E.Estimator.answers in
+    let est = g.E.Estimator.meaning in
     lawfully est g.E.Estimator.laws s₀.task s₀.core.memory.capacity _ c.loop-place.place (plan_text s₀.task) c.args.calls.now c.loop-place.replies (record { row = c.args.row.now; buffer = c.args.buffer.now }) (record { row = c.loop-place.row; buffer = c.loop-place.buffer }) c.args.estimator.now (plain_of c.loop-place.search.core) c.loop-place.estimator
     (omega (arith, c.min-count.ensures)) (c.loop-place.invariant.2 q)

@@ -3,7 +3,6 @@ use Rattle.std.proofs.Common.{◌≡◌}
 use Rattle.task.specs.Model.{model}
 use Rattle.plain.specs.Plain.{opened}
 use Rattle.plain.specs.Runs.{Run, Reached}
-use Rattle.memory.specs.Steps.{kind_of}
 use Rattle.search.specs.Search.{plain_of}
 use Rattle.search.specs.Replay.{RunOf}
 use Rattle.memory.specs.Plans.{plan_text}
@@ -14,4 +13,4 @@ invariant-loop-place g l =
     (l.search.task ≡ l.initial.search.task) × (l.search.core.memory.capacity ≡ l.initial.search.core.memory.capacity) ×
     (plain_of l.initial.search.core ≡ opened →
     (run : Run) × RunOf l.calls l.replies (record { row = l.initial.row; buffer = l.initial.buffer }) run l.place (record { row = l.row; buffer = l.buffer }) ×
-    Reached (kind_of g.E.Estimator.unset g.E.Estimator.holds g.E.Estimator.sets g.E.Estimator.answers) (model l.initial.search.task) l.initial.search.core.memory.capacity (plan_text l.initial.search.task) l.initial.estimator run (plain_of l.search.core) l.estimator)
+    Reached g.E.Estimator.meaning (model l.initial.search.task) l.initial.search.core.memory.capacity (plan_text l.initial.search.task) l.initial.estimator run (plain_of l.search.core) l.estimator)
