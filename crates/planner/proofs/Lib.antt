@@ -1,3 +1,4 @@
-pub mod Taking
 pub mod Ending
 pub mod Limits
+pub mod Planned
+pub mod Taking

@@ -1,32 +1,20 @@
--- Taking the variables of a pattern one after another.
-use Rattle.std.proofs.Common.{◌≡◌, ℕ, zero, suc, ◌+◌, ◌-◌, ◌*◌, ◌<◌, ◌≤◌, List, [], length, get_or, drop, sym, refl, ap, ◌∙◌, arith, drop_of_length-le, drop-cons, rules}
+-- What a chain over the variables counts is what a pattern takes.
+use Rattle.std.proofs.Common.{◌≡◌, ℕ, zero, suc, ◌+◌, ◌-◌, ◌*◌, ◌^◌, cond, nat_le, List, [], ◌∷◌, take, map, min, refl, ap, ◌∙◌, arith}
+use Rattle.std.proofs.lemmas.Bool.Decides.{nat_tests}
+use Rattle.std.specs.List.{scan, prefix_len}
+use Rattle.tables.specs.declared.records.Variable.{Variable}
 use Rattle.planner.specs.Patterns.{taken}
 
--- past the last variable none is taken
-pub taken-past : (n ranks i : ℕ) (ds : List ℕ) → length ds ≤ i → taken n ranks (drop i ds) ≡ 0
-taken-past n ranks i ds l = rw (drop_of_length-le ds l) (none n)
-  where
-    none : (m : ℕ) → taken m ranks [] ≡ 0
-    none zero = refl
-    none (suc m) = refl
+-- the ranks with one variable more, of at most 32 bits
+abbrev pub times : ℕ → Variable → ℕ
+times ranks v = min (ranks * v.domain) (2 ^ 32 - 1)
 
--- a variable that does not fit is not taken
-pub taken-stop : (n ranks i : ℕ) (ds : List ℕ) → i < length ds → 4096 < ranks * get_or ds i 0 → taken n ranks (drop i ds) ≡ 0
-taken-stop zero ranks i ds l h = refl
-taken-stop (suc n) ranks i ds l h =
-    rw (drop-cons ds i 0 l) (search rules)
+-- 32 bits suffice to tell whether the ranks are few, and to count few
+few_ranks : (m : ℕ) (rest : ℕ → ℕ) → cond (nat_le (min m (2 ^ 32 - 1)) 4096) (1 + rest (min m (2 ^ 32 - 1))) 0 ≡ cond (nat_le m 4096) (suc (rest m)) 0
+few_ranks m rest = grind (arith, nat_tests)
 
--- a variable that fits is taken, and then what the rest takes
-pub taken_more : (n ranks i : ℕ) (ds : List ℕ) → i < length ds → ranks * get_or ds i 0 ≤ 4096 → taken (suc n) ranks (drop i ds) ≡ suc (taken n (ranks * get_or ds i 0) (drop (suc i) ds))
-taken_more n ranks i ds l h =
-    rw (drop-cons ds i 0 l) (search rules)
-
--- one turn: after n variables one more that fits
-pub taken-turn : (total n first ranks d : ℕ) (ds : List ℕ) → n < 8 → d ≡ get_or ds (first + n) 0 → first + n < length ds → ranks * d ≤ 4096
-    → total ≡ n + taken (8 - n) ranks (drop (first + n) ds) → total ≡ (n + 1) + taken (8 - (n + 1)) (ranks * d) (drop (first + (n + 1)) ds)
-taken-turn total n first ranks d ds few e l h t =
-    let m = taken_more (8 - (n + 1)) ranks (first + n) ds l (rw (sym e) h) in
-    let s : 8 - n ≡ suc (8 - (n + 1)) = omega arith in
-    let f : first + (n + 1) ≡ suc (first + n) = omega arith in
-    let u : total ≡ n + suc (taken (8 - (n + 1)) (ranks * get_or ds (first + n) 0) (drop (suc (first + n)) ds)) = t ∙ ap (λ k. n + k) (ap (λ k. taken k ranks (drop (first + n) ds)) s ∙ m) in
-    rw (e, f) (omega arith)
+pub counted : (n ranks : ℕ) (vs : List Variable) → prefix_len (λ r. nat_le r 4096) (scan times times ranks (take n vs)) ≡ taken n ranks (map (λ v. v.domain) vs)
+counted zero ranks vs = refl
+counted (suc n) ranks [] = refl
+counted (suc n) ranks (v ∷ vs) =
+    ap (λ k. cond (nat_le (times ranks v) 4096) (1 + k) 0) (counted n (times ranks v) vs) ∙ few_ranks (ranks * v.domain) (λ r. taken n r (map (λ v. v.domain) vs))

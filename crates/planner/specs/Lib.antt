@@ -1,3 +1,4 @@
 pub mod Patterns
-pub mod Solving
 pub mod Planning
+pub mod Solving
+pub mod Space

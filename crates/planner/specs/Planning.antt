@@ -1,25 +1,36 @@
--- What planning a task text answers where the text is refused, and what the workspace of a planning holds.
-use Rattle.std.specs.Prelude.{◌≡◌, ℕ, List, Err, vec_items, vec_len}
+-- What planning a task text answers.
+use Rattle.std.specs.Prelude.{◌≡◌, ℕ, ◌≤◌, List, Ok, Err, Result}
+use Rattle.task.specs.declared.task.Task.{Task}
 use Rattle.format.specs.Whole.{room_of, task_of}
-use Rattle.planner.specs.declared.plan.Workspace.{Workspace}
-use Rattle.planner.specs.declared.plan.Answer.{Answer}
-use Rattle.planner.specs.declared.plan.Answer.TheVariants as answer
+use Rattle.reader.specs.Named.{NamedTask, Valid}
+use Rattle.reader.specs.Rendering.{render}
+use Rattle.reader.specs.Loading.{Shows}
+use Rattle.task.specs.Model.{model}
+use Rattle.memory.specs.Plans.{plan_text}
+use Rattle.planner.specs.Solving.{Ended}
+use Rattle.planner.specs.declared.solve.Solution.{Solution}
+use Rattle.planner.specs.declared.solve.Solution.TheVariants as solution
+use Rattle.planner.specs.declared.plan.PlanError.{PlanError}
+use Rattle.planner.specs.declared.plan.PlanError.TheVariants as error
 
--- the workspace holds a copy of the text, records for every task, and memory for a search of 2,048 states
-pub record Made (text : List ℕ) (w : Workspace) : Type 0 where
-  pub copied : vec_items w.text ≡ text
-  pub variables : vec_len w.variables ≡ 32
-  pub operators : vec_len w.operators ≡ 256
-  pub entries : vec_len w.entries ≡ 4096
-  pub nodes : vec_len w.nodes ≡ 2048
-  pub states : vec_len w.states ≡ 65536
-  pub index : vec_len w.index ≡ 4096
-  pub waiting : vec_len w.waiting ≡ 2048
-  pub places : vec_len w.places ≡ 2048
-  pub prices : vec_len w.prices ≡ 256
+-- the text is that of a valid task, and a search of that task with room for 2,048 states comes to this solution
+pub record Planned (text buffer : List ℕ) (s : Solution) (after : List ℕ) : Type 0 where
+  pub named : NamedTask
+  pub valid : Valid named
+  pub stated : text ≡ render named
+  pub task : Task
+  pub shows : Shows task named
+  pub ended : Ended (model task) 2048 (plan_text task) buffer (Ok s) after
 
--- a text that is refused answers its first fault, and the buffer stays. What the answer of an accepted text means is said where
--- its task is solved (Solving.antt); nothing more is said of it here.
-abbrev pub Answered : List ℕ → List ℕ → Answer → List ℕ → Type 0
-Answered text buffer (answer.Unread f) after = (task_of text (room_of 32 256 4096) ≡ Err f) × (after ≡ buffer)
-Answered text buffer (answer.Solved s) after = Unit {0}
+-- A text that is refused answers its first fault. The buffer stays unless there is a solution.
+abbrev pub Answered : List ℕ → List ℕ → Result Solution PlanError → List ℕ → Type 0
+Answered text buffer (Err (error.Text f)) after = (task_of text (room_of 32 256 4096) ≡ Err f) × (after ≡ buffer)
+Answered text buffer (Err (error.Memory e)) after = after ≡ buffer
+Answered text buffer (Err (error.Search f)) after = after ≡ buffer
+Answered text buffer (Ok s) after = Planned text buffer s after
+
+-- a plan's text lies within so many bytes
+abbrev pub Within : ℕ → Solution → Type 0
+Within bytes (solution.Plan n) = n ≤ bytes
+Within bytes solution.NoPlan = Unit {0}
+Within bytes solution.Full = Unit {0}

@@ -23,12 +23,12 @@ TooShort T text buffer c = (c ≡ cause.Short) × ((p : List ℕ) × Cheapest T 
 -- what a search that was started came to: the text of a cheapest plan stands at the front of the buffer, whose other bytes
 -- stay; there is no plan; N different reachable states are held, and an operator leads from one of them to yet another; or
 -- the buffer is too short. Only a plan changes the buffer.
-abbrev pub Ended : Model → ℕ → (List ℕ → ℕ → List ℕ) → List ℕ → Solution → List ℕ → Type 0
-Ended T N text buffer (solution.Plan n) after = (p : List ℕ) × Cheapest T p × (n ≡ length (text p (cost T p))) × (after ≡ text p (cost T p) ++ drop n buffer)
-Ended T N text buffer solution.NoPlan after = ((p : List ℕ) → Plan T T.initial p → ⊥) × (after ≡ buffer)
-Ended T N text buffer solution.Full after = ((ns : List Node) × MemoryFull T N ns) × (after ≡ buffer)
-Ended T N text buffer (solution.Refused (Own c)) after = TooShort T text buffer c × (after ≡ buffer)
-Ended T N text buffer (solution.Refused (Set f)) after = ⊥
+abbrev pub Ended : Model → ℕ → (List ℕ → ℕ → List ℕ) → List ℕ → Result Solution Fault → List ℕ → Type 0
+Ended T N text buffer (Ok (solution.Plan n)) after = (p : List ℕ) × Cheapest T p × (n ≡ length (text p (cost T p))) × (after ≡ text p (cost T p) ++ drop n buffer)
+Ended T N text buffer (Ok solution.NoPlan) after = ((p : List ℕ) → Plan T T.initial p → ⊥) × (after ≡ buffer)
+Ended T N text buffer (Ok solution.Full) after = ((ns : List Node) × MemoryFull T N ns) × (after ≡ buffer)
+Ended T N text buffer (Err (Own c)) after = TooShort T text buffer c × (after ≡ buffer)
+Ended T N text buffer (Err (Set f)) after = ⊥
 
 -- why a start of a search just opened is refused: no room for a node, a price row of another length, or the estimator's own fault
 abbrev pub StartRefused : {E : Type 0} → SetsT E → Model → ℕ → List ℕ → E → Fault → Type 0
@@ -36,9 +36,5 @@ StartRefused sets T N row e (Own c) = ((c ≡ cause.Room) × (N ≡ 0)) ⊎ ((c 
 StartRefused {E} sets T N row e (Set f) = (left : List ℕ) × (e' : E) × sets e T (prices T) 1 (Err f) left e'
 
 -- the same of a whole solving, which a refused start ends
-abbrev pub Solved : {E : Type 0} → SetsT E → Model → ℕ → (List ℕ → ℕ → List ℕ) → List ℕ → E → List ℕ → Solution → List ℕ → Type 0
-Solved sets T N text row e buffer s after = Ended T N text buffer s after ⊎ ((f : Fault) × (s ≡ solution.Refused f) × StartRefused sets T N row e f × (after ≡ buffer))
-
-abbrev pub concluded : Result ℕ Cause → Solution
-concluded (Ok n) = solution.Plan n
-concluded (Err c) = solution.Refused (Own c)
+abbrev pub Solved : {E : Type 0} → SetsT E → Model → ℕ → (List ℕ → ℕ → List ℕ) → List ℕ → E → List ℕ → Result Solution Fault → List ℕ → Type 0
+Solved sets T N text row e buffer r after = Ended T N text buffer r after ⊎ ((f : Fault) × (r ≡ Err f) × StartRefused sets T N row e f × (after ≡ buffer))

@@ -4,3 +4,4 @@
 pub mod patterns;
 pub mod plan;
 pub mod solve;
+mod workspace;

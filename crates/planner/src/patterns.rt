@@ -11,19 +11,14 @@ pub fn pattern_length(task: &Task<'_>, first: usize) -> usize
     ensures few { result ≤ 8 }
     ensures within { first ≤ length (model task.now).domains → first + result ≤ length (model task.now).domains }
 {
-    let mut ranks: u32 = 1;
-    let mut count: usize = 0;
-    while count < 8 {
-        let variable = first.saturating_add(count);
-        if variable >= task.variable_count() {
-            return count;
-        }
-        let more = ranks * task.domain(variable) as u32;
-        if more > 4096 {
-            return count;
-        }
-        ranks = more;
-        count += 1;
-    }
-    count
+    task.variables
+        .iter()
+        .skip(first)
+        .take(8)
+        .scan(1u32, |ranks, variable| {
+            *ranks = ranks.saturating_mul(u32::from(variable.domain));
+            Some(*ranks)
+        })
+        .take_while(|ranks| *ranks <= 4096)
+        .count()
 }

@@ -1,183 +1,82 @@
 // From a task text to its cheapest plan, under a partition of two projections, with room for 2,048 states.
-ghost use Rattle.std.specs.Prelude.{◌≡◌, ℕ, List, length, IfOk};
-ghost use Rattle.planner.specs.Planning.{Made, Answered};
+ghost use Rattle.std.specs.Prelude.{◌≡◌, length, IfOk};
+ghost use Rattle.planner.specs.Planning.{Answered, Within};
+ghost use Rattle.planner.specs.Space.{Made};
+ghost use Rattle.planner.specs.declared.plan.PlanError.TheVariants.{Memory, Text, Search};
 
 use super::patterns::pattern_length;
 use super::solve::{Solution, solve};
+use super::workspace::Workspace;
 use layers::partition::Partition;
-use memory::node::Node;
-use projection::projection::Projection;
-use queue::entries::{RankEntry, SearchEntry};
-use reader::load::load;
-use search::search::Search;
 use std::alloc::{AllocError, Global};
+use std::{array, fmt};
 use tables::fault::Fault;
-use tables::records::{Entry, Operator, Variable};
-use task::task::Task;
 
-// The numbers of all variables that a task can have.
-const VARIABLES: [u8; 32] = [
-    0, 1, 2, 3, 4, 5, 6, 7, 8, 9, 10, 11, 12, 13, 14, 15, 16, 17, 18, 19, 20, 21, 22, 23, 24, 25,
-    26, 27, 28, 29, 30, 31,
-];
-
-// How many states the search holds, and how many ranks a projection has at most.
-const CAPACITY: usize = 2048;
-
-const RANKS: usize = 4096;
-
-const NO_NODE: Node = Node {
-    g: 0,
-    parent: 0,
-    operator: 0,
-};
-
-const NO_RANK: RankEntry = RankEntry {
-    distance: 0,
-    rank: 0,
-};
-
-const NO_ENTRY: SearchEntry = SearchEntry {
-    f: 0,
-    estimate: 0,
-    node: 0,
-};
-
-// What planning a text comes to: the text's first fault, or what its task was solved to.
+// Why a text is not planned: no memory, the text's first fault, or a refusal of the search.
 #[derive(Clone, Copy)]
-pub enum Answer {
-    Unread(Fault),
-    Solved(Solution),
+pub enum PlanError {
+    Memory(AllocError),
+    Text(Fault),
+    Search(plain::fault::Fault),
 }
 
-// All the memory that planning a text takes, with a copy of the text: so all that a task borrows has one lifetime.
-#[derive(Drop)]
-pub struct Workspace {
-    text: Vec<u8>,
-    variables: Vec<Variable>,
-    operators: Vec<Operator>,
-    entries: Vec<Entry>,
-    nodes: Vec<Node>,
-    states: Vec<u8>,
-    index: Vec<u32>,
-    waiting: Vec<SearchEntry>,
-    places: Vec<u32>,
-    prices: Vec<u32>,
-}
+impl From<AllocError> for PlanError {
+    ghost from_gives = { λ error r. r ≡ Memory error };
 
-// What a projection keeps its distances and its queue of ranks in.
-#[derive(Drop)]
-pub struct RankSpace {
-    table: Vec<u32>,
-    ranks: Vec<RankEntry>,
-    places: Vec<u32>,
-}
-
-// Memory for a projection of at most 4,096 ranks.
-fn rank_space(heap: Global) -> Result<RankSpace, AllocError> {
-    let table = vec![in heap; 0u32; RANKS]?;
-    let ranks = vec![in heap; NO_RANK; RANKS]?;
-    let places = vec![in heap; 0u32; RANKS]?;
-    Ok(RankSpace {
-        table,
-        ranks,
-        places,
-    })
-}
-
-// Memory for records of every task and a search of 2,048 states, and a copy of the text.
-fn make_workspace(heap: Global, text: &[u8]) -> Result<Workspace, AllocError>
-    ensures { IfOk result (λ w. Made text.now w) }
-{
-    let copy = text.to_vec(heap)?;
-    let variables = vec![in heap; Variable::ZERO; 32]?;
-    let operators = vec![in heap; Operator::ZERO; 256]?;
-    let entries = vec![in heap; Entry::ZERO; 4096]?;
-    let nodes = vec![in heap; NO_NODE; CAPACITY]?;
-    let states = vec![in heap; 0u8; CAPACITY * 32]?;
-    let index = vec![in heap; 0u32; CAPACITY * 2]?;
-    let waiting = vec![in heap; NO_ENTRY; CAPACITY]?;
-    let places = vec![in heap; 0u32; CAPACITY]?;
-    let prices = vec![in heap; 0u32; 256]?;
-    Ok(Workspace {
-        text: copy,
-        variables,
-        operators,
-        entries,
-        nodes,
-        states,
-        index,
-        waiting,
-        places,
-        prices,
-    })
-}
-
-// Reads the workspace's text, solves its task, and writes the plan into the buffer.
-fn plan_in(space: Workspace, first: RankSpace, second: RankSpace, buffer: &mut [u8]) -> Answer
-    ensures { (text : List ℕ) → Made text space → Answered text buffer.old result buffer.new }
-{
-    let Workspace {
-        text,
-        mut variables,
-        mut operators,
-        mut entries,
-        mut nodes,
-        mut states,
-        mut index,
-        mut waiting,
-        mut places,
-        mut prices,
-    } = space;
-    let RankSpace {
-        mut table,
-        mut ranks,
-        places: mut rank_places,
-    } = first;
-    let RankSpace {
-        table: mut more_table,
-        ranks: mut more_ranks,
-        places: mut more_places,
-    } = second;
-    let mut task = Task::built_in();
-    let loaded = load(
-        &mut task,
-        &text,
-        &mut variables,
-        &mut operators,
-        &mut entries,
-    );
-    if let Err(fault) = loaded {
-        return Answer::Unread(fault);
+    fn from(memory: AllocError) -> PlanError {
+        PlanError::Memory(memory)
     }
-    let one = pattern_length(&task, 0);
-    let two = one + pattern_length(&task, one);
-    let left = Projection::new(&VARIABLES[0..one], &mut table, &mut ranks, &mut rank_places);
-    let right = Projection::new(
-        &VARIABLES[one..two],
-        &mut more_table,
-        &mut more_ranks,
-        &mut more_places,
+}
+
+impl From<Fault> for PlanError {
+    ghost from_gives = { λ fault r. r ≡ Text fault };
+
+    fn from(text: Fault) -> PlanError {
+        PlanError::Text(text)
+    }
+}
+
+impl From<plain::fault::Fault> for PlanError {
+    ghost from_gives = { λ fault r. r ≡ Search fault };
+
+    fn from(search: plain::fault::Fault) -> PlanError {
+        PlanError::Search(search)
+    }
+}
+
+impl fmt::Display for PlanError {
+    fn fmt<W: fmt::Write>(&self, f: &mut fmt::Formatter<W>) -> fmt::Result {
+        match self {
+            PlanError::Memory(error) => write!(f, "{error}"),
+            PlanError::Text(fault) => write!(f, "{fault}"),
+            PlanError::Search(fault) => write!(f, "{}", fault.cause()),
+        }
+    }
+}
+
+// Reads a task text, solves its task in the memory lent, and writes the plan into the buffer.
+fn plan_in(space: &mut Workspace, text: &[u8], buffer: &mut [u8]) -> Result<Solution, PlanError>
+    ensures { Made space.old → Answered text.now buffer.old result buffer.new }
+{
+    let task = space.records.read(text)?;
+    let numbers: [u8; 32] = array::from_fn(|i| i as u8);
+    let (first, rest) = numbers.split_at(pattern_length(&task, 0));
+    let second = &rest[..pattern_length(&task, first.len())];
+    let mut estimator = Partition::new(
+        space.left.projection(first),
+        space.right.projection(second),
     );
-    let mut estimator = Partition::new(left, right);
-    let count = task.operator_count().min(prices.len());
-    let mut search = Search::open(
-        task,
-        &mut nodes,
-        &mut states,
-        &mut index,
-        &mut waiting,
-        &mut places,
-    );
-    Answer::Solved(solve(&mut search, &mut prices[0..count], &mut estimator, buffer))
+    let count = task.operator_count().min(space.prices.len());
+    let mut search = space.search.open(task);
+    let row = &mut space.prices[..count];
+    Ok(solve(&mut search, row, &mut estimator, buffer)?)
 }
 
 // Reads a task text, solves its task, and writes the plan into the buffer.
-pub fn plan(heap: Global, text: &[u8], buffer: &mut [u8]) -> Result<Answer, AllocError>
-    ensures { IfOk result (λ a. Answered text.now buffer.old a buffer.new) }
+pub fn plan(heap: Global, text: &[u8], buffer: &mut [u8]) -> Result<Solution, PlanError>
+    ensures answer { Answered text.now buffer.old result buffer.new }
+    ensures within { IfOk result (Within (length buffer.new)) }
 {
-    let space = make_workspace(heap, text)?;
-    let first = rank_space(heap)?;
-    let second = rank_space(heap)?;
-    Ok(plan_in(space, first, second, buffer))
+    let mut space = Workspace::new(heap)?;
+    plan_in(&mut space, text, buffer)
 }

@@ -2,8 +2,8 @@
 // state on the way.
 #![tactic(auto)]
 
-use console::{read_text, write_fault};
-use reader::load::load;
+use console::read_text;
+use reader::load::read;
 use std::io::Write;
 use std::{env, io};
 use tables::records::{Entry, Operator, Variable};
@@ -11,15 +11,11 @@ use task::task::Task;
 
 // Writes the state's values by name.
 fn write_state<W: Write>(out: &mut W, task: &Task<'_>, row: &[u8]) -> io::Result<()> {
-    for variable in 0..row.len() {
+    for (variable, value) in row.iter().enumerate() {
         out.write_all(b" ")?;
-        if let Some(name) = task.variable_name(variable) {
-            out.write_all(name)?;
-        }
+        out.write_all(task.variable_name(variable).unwrap_or(&[]))?;
         out.write_all(b"=")?;
-        if let Some(name) = task.value_name(variable, row[variable]) {
-            out.write_all(name)?;
-        }
+        out.write_all(task.value_name(variable, *value).unwrap_or(&[]))?;
     }
     Ok(())
 }
@@ -38,9 +34,7 @@ fn write_step<W: Write>(
         return Ok(None);
     }
     let total = cost.saturating_add(walked.cost);
-    if let Some(name) = task.operator_name(operator) {
-        out.write_all(name)?;
-    }
+    out.write_all(task.operator_name(operator).unwrap_or(&[]))?;
     out.write_all(b":")?;
     write_state(out, task, row)?;
     writeln!(out, ", cost {total}")?;
@@ -78,25 +72,18 @@ fn write_walk<W: Write>(
 fn main(rt: HostRuntime) -> anyhow::Result<()> {
     let heap = rt.alloc();
     let text = read_text(&mut rt.stdin(), heap)?;
-    let mut words = Vec::new(heap);
-    for word in env::args(&rt)?.skip(1) {
-        words.push(word)?;
-    }
+    let words: Vec<String> = env::args(&rt)?.skip(1).collect(heap)?;
     let mut variables = vec![in heap; Variable::ZERO; 32]?;
     let mut operators = vec![in heap; Operator::ZERO; 256]?;
     let mut entries = vec![in heap; Entry::ZERO; 4096]?;
-    let mut task = Task::built_in();
     let mut out = rt.stdout();
-    if let Err(fault) = load(
-        &mut task,
-        &text,
-        &mut variables,
-        &mut operators,
-        &mut entries,
-    ) {
-        write_fault(&mut out, fault)?;
-        return Ok(());
-    }
+    let task = match read(&text, &mut variables, &mut operators, &mut entries) {
+        Ok(task) => task,
+        Err(fault) => {
+            writeln!(out, "{fault}")?;
+            return Ok(());
+        }
+    };
     let mut row = vec![in heap; 0u8; task.variable_count()]?;
     task.initial_into(&mut row);
     write_walk(&mut out, &task, words.as_slice(), &mut row)?;

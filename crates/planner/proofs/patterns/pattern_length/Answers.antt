@@ -1,35 +1,27 @@
--- Each turn takes one variable more; past the last, or where one does not fit, no more is taken.
-use Rattle.std.proofs.Common.{◌≡◌, ◌+◌, ◌-◌, get_or, drop, ap, ◌∙◌, arith}
-use Rattle.task.specs.Model.{model}
+-- The chain counts the variables that fit.
+use Rattle.std.proofs.Common.{ℕ, take, drop, nat_le, rules, tests, Bool, sym, ap, ◌∙◌}
+use Rattle.std.proofs.lemmas.Iterator.{YieldsList-from_slice, YieldsList-from_take}
+use Rattle.std.proofs.lemmas.Iterator.Adapters.{YieldsList-from_skip}
+use Rattle.std.proofs.lemmas.Iterator.Consumers.{YieldsList-at, YieldsList-from_scan, count_from_yields_List}
+use Rattle.std.proofs.lemmas.Iterator.Search.{YieldsList-from_take_while}
+use Rattle.std.proofs.lemmas.List.{drop-map}
+use Rattle.std.proofs.lemmas.List.Folds.{length-prefix_len}
+use Rattle.std.specs.List.{scan}
+use Rattle.tables.specs.declared.records.Variable.{Variable}
 use Rattle.planner.specs.Patterns.{taken}
-use Rattle.planner.proofs.Taking.{taken-past, taken-stop, taken-turn}
+use Rattle.planner.proofs.Taking.{counted, times}
 use Rattle.planner.proofs.patterns.pattern_length.Goals as goal
 
-pub returns-then-variable-variable_count : goal.returns-then-variable-variable_count
-returns-then-variable-variable_count c =
-    let ds = (model c.args.task.now).domains in
-    let i = c.loop-count.invariant in
-    let e = taken-past (8 - c.loop-count.count) c.loop-count.ranks (c.args.first + c.loop-count.count) ds (omega arith) in
-    record { taken = omega arith; few = omega arith; within = i.3 }
-
-pub returns-then-more-gt4096 : goal.returns-then-more-gt4096
-returns-then-more-gt4096 c =
-    let ds = (model c.args.task.now).domains in
-    let i = c.loop-count.invariant in
-    let at : c.saturating_add-variable.result ≡ c.args.first + c.loop-count.count = omega arith in
-    let d : c.domain.result ≡ get_or ds (c.args.first + c.loop-count.count) 0 = c.domain.ensures ∙ ap (λ k. get_or ds k 0) at in
-    let e = taken-stop (8 - c.loop-count.count) c.loop-count.ranks (c.args.first + c.loop-count.count) ds (omega arith) (rw d at c.if-more-gt4096.true) in
-    record { taken = omega arith; few = omega arith; within = i.3 }
-
-pub loop-count-preserved : goal.loop-count-preserved
-loop-count-preserved c =
-    let ds = (model c.args.task.now).domains in
-    let n = c.loop-count.count in
-    let i = c.loop-count.invariant in
-    let at : c.saturating_add-variable.result ≡ c.args.first + n = omega arith in
-    let d : c.domain.result ≡ get_or ds (c.args.first + n) 0 = c.domain.ensures ∙ ap (λ k. get_or ds k 0) at in (
-      taken-turn (taken 8 1 (drop c.args.first ds)) n c.args.first c.loop-count.ranks c.domain.result ds (omega arith) d (omega arith) c.if-more-gt4096.false i.0,
-      omega arith,
-      omega arith,
-      λ l. omega arith,
-    )
+pub returns-clause-taken : goal.returns-clause-taken
+returns-clause-taken c =
+    let vs = c.args.task.now.variables.now in
+    let fit : ℕ → Bool = λ r. nat_le r 4096 in
+    let rest = YieldsList-from_skip {s = c.skip.result} c.args.first (YieldsList-at c.skip.ensures.source (YieldsList-from_slice vs cc)) c.skip.ensures.count in
+    let next = YieldsList-from_take {s = c.take.result} 8 (YieldsList-at c.take.ensures.source rest) c.take.ensures.count in
+    count_from_yields_List c.take_while.result _ c.count.ensures.ran
+    (YieldsList-from_take_while _ fit
+    (YieldsList-at c.take_while.ensures.source
+    (YieldsList-from_scan _ times times 1 (YieldsList-at c.scan.ensures.source next) c.scan.ensures.state c.scan.ensures.closure (λ b x r q n k. search (rules, tests))))
+    c.take_while.ensures.closure c.take_while.ensures.done (λ x b q k. search (rules, tests)))
+    ∙ (length-prefix_len fit (scan times times 1 (take 8 (drop c.args.first vs)))
+    ∙ (counted 8 1 (drop c.args.first vs) ∙ ap (taken 8 1) (sym (drop-map (λ (v : Variable). v.domain) c.args.first vs))))

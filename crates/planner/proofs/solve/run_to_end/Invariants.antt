@@ -3,7 +3,6 @@ use Rattle.std.proofs.Common.{◌≡◌, ◌+◌, ◌-◌, ◌*◌}
 use Rattle.task.specs.Model.{model, prices, dearest}
 use Rattle.plain.specs.Plain.{running}
 use Rattle.plain.specs.Runs.{Run, Reached}
-use Rattle.memory.specs.Steps.{kind_of}
 use Rattle.memory.specs.Plans.{plan_text}
 use Rattle.search.specs.Search.{plain_of}
 use Rattle.planner.proofs.solve.run_to_end.Given as goal
@@ -13,9 +12,9 @@ invariant-loop-next g l =
     (l.search.task ≡ l.initial.search.task) × (l.search.core.memory.capacity ≡ l.initial.search.core.memory.capacity)
     × (l.buffer ≡ l.initial.buffer)
     × ((start : g.row.E.Denot) (run : Run) →
-    Reached (kind_of g.E.Estimator.unset g.E.Estimator.holds g.E.Estimator.sets g.E.Estimator.answers) (model l.initial.search.task) l.initial.search.core.memory.capacity (plan_text l.initial.search.task) start run (plain_of l.initial.search.core) l.initial.estimator →
+    Reached g.E.Estimator.meaning (model l.initial.search.task) l.initial.search.core.memory.capacity (plan_text l.initial.search.task) start run (plain_of l.initial.search.core) l.initial.estimator →
     (plain_of l.initial.search.core).status ≡ running →
-    ((more : Run) × Reached (kind_of g.E.Estimator.unset g.E.Estimator.holds g.E.Estimator.sets g.E.Estimator.answers) (model l.initial.search.task) l.initial.search.core.memory.capacity (plan_text l.initial.search.task) start more (plain_of l.search.core) l.estimator)
+    ((more : Run) × Reached g.E.Estimator.meaning (model l.initial.search.task) l.initial.search.core.memory.capacity (plan_text l.initial.search.task) start more (plain_of l.search.core) l.estimator)
     × ((plain_of l.search.core).status ≡ running))
 
 abbrev pub decreases-loop-next : goal.decreases-loop-next
