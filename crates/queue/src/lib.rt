@@ -7,7 +7,7 @@ mod indexed;
 ghost use Rattle.std.specs.Prelude.{◌≡◌, ℕ, Bool, true, None};
 ghost use Rattle.std.specs.Ordering.{is_le};
 ghost use Rattle.std.specs.declared.cmp.Ordering.TheVariants.{Equal};
-ghost use Rattle.queue.specs.Content.{content, Rows, Changed, Resized, Put, Taken};
+ghost use Rattle.queue.specs.Content.{content, Sound, Rows, Changed, Resized, Put, Taken};
 
 use indexed::Heap;
 use std::marker::Model;
@@ -56,6 +56,7 @@ impl<'a, T: QueueEntry> Model for Queue<'a, T> {
 impl<'a, T: QueueEntry> Queue<'a, T> {
     // An empty queue over two slices, which may hold anything.
     pub fn new(entries: &'a mut [T], places: &'a mut [u32]) -> Self
+        ensures sound { Sound T.item_of T.no_later result }
         ensures empty { (k : ℕ) → content T.item_of result k ≡ None }
         ensures len { result.len ≡ 0 }
         ensures entries { result.entries.now ≡ entries.old }
@@ -78,6 +79,7 @@ impl<'a, T: QueueEntry> Queue<'a, T> {
 
     // Adds an entry, or puts it in the place of the one of its item.
     pub fn put(&mut self, entry: T) -> Result<(), Cause>
+        ensures sound { Sound T.item_of T.no_later self.new }
         ensures rows { Rows self.old self.new }
         ensures put { Put T.item_of entry self.old self.new result }
     {
@@ -95,6 +97,7 @@ impl<'a, T: QueueEntry> Queue<'a, T> {
 
     // Removes the entry of an item, if there is one.
     pub fn drop_item(&mut self, item: u32)
+        ensures sound { Sound T.item_of T.no_later self.new }
         ensures rows { Rows self.old self.new }
         ensures dropped { Changed T.item_of self.old self.new item None }
         ensures resized { Resized T.item_of self.old self.new item None }
@@ -106,6 +109,7 @@ impl<'a, T: QueueEntry> Queue<'a, T> {
 
     // Takes out the first entry.
     pub fn take(&mut self) -> Option<T>
+        ensures sound { Sound T.item_of T.no_later self.new }
         ensures rows { Rows self.old self.new }
         ensures taken { Taken T.item_of T.no_later self.old self.new result }
     {

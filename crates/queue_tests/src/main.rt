@@ -5,7 +5,7 @@ mod pair;
 mod plain_list;
 
 ghost use Rattle.std.specs.Prelude.{◌≤◌};
-ghost use Rattle.queue.specs.Content.{Rows};
+ghost use Rattle.queue.specs.Content.{Sound, Rows};
 
 use pair::Pair;
 use queue::entries::{RankEntry, SearchEntry};
@@ -38,7 +38,8 @@ fn agreeing(operations: u32) -> u32
 
 // A caller that is generic in the entries.
 fn put_all<T: QueueEntry>(queue: &mut Queue<T>, entries: &[T])
-    ensures { Rows queue.old queue.new }
+    ensures sound { Sound T.item_of T.no_later queue.old → Sound T.item_of T.no_later queue.new }
+    ensures rows { Rows queue.old queue.new }
 {
     for entry in entries {
         let _ = queue.put(*entry);
