@@ -4,6 +4,10 @@ use Rattle.task.specs.Model.{Model, IsState}
 use Rattle.estimator.specs.Price.{Offer, Shares, Admissible}
 use Rattle.estimator.specs.declared.fault.SetFault.{SetFault}
 
+-- set on a task with a held price row
+abbrev pub HoldsT : Type 0 → Type 1
+HoldsT E = E → Model → List ℕ → Type 0
+
 -- a set: entry, task, row offered, layer number, result, row left, exit
 abbrev pub SetsT : Type 0 → Type 1
 SetsT E = E → Model → List ℕ → ℕ → Result (Unit {0}) SetFault → List ℕ → E → Type 0
@@ -17,7 +21,7 @@ pub record Meaning (E : Type 0) : Type 1 where
   -- it is unset
   pub unset : E → Type 0
   -- it is set on the task, and holds that price row
-  pub holds : E → Model → List ℕ → Type 0
+  pub holds : HoldsT E
   -- what a set does
   pub sets : SetsT E
   -- what an ask does

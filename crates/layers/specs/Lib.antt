@@ -3,4 +3,5 @@ pub mod Terms
 pub mod Layer
 pub mod Maximum
 pub mod Partition
+pub mod Same
 pub mod Lawful

@@ -1,4 +1,8 @@
+ghost use Rattle.std.specs.Prelude.{◌≡◌};
+ghost use Rattle.layers.specs.Layer.{Unset};
 ghost use Rattle.layers.specs.Maximum.{greater};
+ghost use Rattle.layers.specs.Maximum as meanings;
+ghost use Rattle.layers.specs.Same.{Same};
 ghost use Rattle.layers.specs.Lawful.Maximum.{greater-laws};
 
 use super::layer::Layer;
@@ -10,6 +14,15 @@ use task::task::Task;
 
 // Offers two estimators the same price row, and answers the greater of their answers.
 pub type Maximum<F, G> = Layer<Greater, F, G>;
+
+// The maximum of two estimators, unset.
+pub fn maximum<F: Estimator, G: Estimator>(first: F, second: G) -> Maximum<F, G>
+    ensures unset { Unset result }
+    ensures below { (result.first ≡ first) × (result.second ≡ second) }
+    ensures meaning { Same ⟦<Maximum<F, G> as Estimator>⟧.meaning (meanings.maximum F.meaning G.meaning) }
+{
+    Layer::new(first, second)
+}
 
 // The rule of the maximum.
 #[derive(Drop)]

@@ -1,4 +1,8 @@
+ghost use Rattle.std.specs.Prelude.{◌≡◌};
+ghost use Rattle.layers.specs.Layer.{Unset};
 ghost use Rattle.layers.specs.Partition.{sum};
+ghost use Rattle.layers.specs.Partition as meanings;
+ghost use Rattle.layers.specs.Same.{Same};
 ghost use Rattle.layers.specs.Lawful.Partition.{sum-laws};
 
 use super::layer::Layer;
@@ -10,6 +14,15 @@ use task::task::Task;
 
 // Offers the second estimator what the first leaves, and answers the sum of their answers.
 pub type Partition<F, G> = Layer<Sum, F, G>;
+
+// The partition of two estimators, unset.
+pub fn partition<F: Estimator, G: Estimator>(first: F, second: G) -> Partition<F, G>
+    ensures unset { Unset result }
+    ensures below { (result.first ≡ first) × (result.second ≡ second) }
+    ensures meaning { Same ⟦<Partition<F, G> as Estimator>⟧.meaning (meanings.partition F.meaning G.meaning) }
+{
+    Layer::new(first, second)
+}
 
 // The rule of the partition.
 #[derive(Drop)]

@@ -11,7 +11,7 @@ use Rattle.layers.specs.Layer.{no_offer, first_refuses, second_refuses, takes, i
 use Rattle.layers.specs.declared.layer.Layer.{Layer}
 
 -- two answers, each admissible at its own prices: what is made of them is so at what is made of the prices
-both-admits : {t : Terms} → TermsLaws t → (T : Model) (first second state : List ℕ) (a b : Option ℕ) → length first ≡ length second → Admissible T first state a → Admissible T second state b → Admissible T (joined t.price first second) state (both t.answer a b)
+pub both-admits : {t : Terms} → TermsLaws t → (T : Model) (first second state : List ℕ) (a b : Option ℕ) → length first ≡ length second → Admissible T first state a → Admissible T second state b → Admissible T (joined t.price first second) state (both t.answer a b)
 both-admits laws T first second state None b e x y = x
 both-admits laws T first second state (Some m) None e x y = y
 both-admits laws T first second state (Some m) (Some n) e x y = λ p plan. laws.bounds first second p m n e (x p plan) (y p plan)

@@ -1,11 +1,25 @@
 -- The terms of the maximum keep their laws.
 use Rattle.std.specs.Prelude.{◌≡◌, ℕ, ◌≤◌, min, max, List, length, refl}
 use Rattle.std.proofs.Common.{sym, ◌∙◌, arith}
-use Rattle.task.specs.Model.{Cost}
-use Rattle.estimator.specs.Price.{Shares, joined}
+use Rattle.task.specs.Model.{Model, Cost}
+use Rattle.estimator.specs.Price.{Offer, Shares, joined}
 use Rattle.estimator.specs.Lawful.Rows.{length-joined, get_or-joined, cost-le}
 use Rattle.layers.specs.Terms.{TermsLaws}
 use Rattle.layers.specs.Maximum.{mins, greater}
+
+-- the greater of two price rows is a price row
+pub offer-max : (T : Model) (first second : List ℕ) → Offer T first → Offer T second → Offer T (joined max first second)
+offer-max T first second a b =
+    let level : length first ≡ length second = a.long ∙ sym b.long in
+    let long : length (joined max first second) ≡ length first = length-joined max first second level in
+    record {
+      long = long ∙ a.long;
+      low = λ k i.
+          let h = get_or-joined max refl first second level k in
+          let x = a.low k (omega arith) in
+          let y = b.low k (omega arith) in
+          omega arith;
+    }
 
 shares-law : (row one two first second : List ℕ) → Shares row first one → Shares row second two → Shares row (joined max first second) (mins one two)
 shares-law row one two first second a b =

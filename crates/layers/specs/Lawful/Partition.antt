@@ -7,7 +7,8 @@ use Rattle.estimator.specs.Lawful.Rows.{length-joined, get_or-joined}
 use Rattle.layers.specs.Terms.{TermsLaws}
 use Rattle.layers.specs.Partition.{sum}
 
-abbrev sums : List ℕ → List ℕ → List ℕ
+-- the sum of two price rows, operator by operator
+abbrev pub sums : List ℕ → List ℕ → List ℕ
 sums = joined (λ x y. x + y)
 
 shares-law : (row one two first second : List ℕ) → Shares row first one → Shares one second two → Shares row (sums first second) two
@@ -24,7 +25,7 @@ shares-law row one two first second a b =
     }
 
 -- what a plan costs at the sum of two price rows
-cost-sum : (first second p : List ℕ) → length first ≡ length second → Cost (sums first second) p ≡ Cost first p + Cost second p
+pub cost-sum : (first second p : List ℕ) → length first ≡ length second → Cost (sums first second) p ≡ Cost first p + Cost second p
 cost-sum first second [] e = refl
 cost-sum first second (o ∷ p) e = let h = get_or-joined (λ x y. x + y) refl first second e o in let i = cost-sum first second p e in omega arith
 
