@@ -2,6 +2,7 @@
 ghost use Rattle.std.specs.Prelude.{◌≡◌, length, IfOk};
 ghost use Rattle.planner.specs.Planning.{Answered, Within};
 ghost use Rattle.planner.specs.Space.{Made};
+ghost use Rattle.planner.specs.Errors.{error_text};
 ghost use Rattle.planner.specs.declared.plan.PlanError.TheVariants.{Memory, Text, Search};
 
 use super::patterns::pattern_length;
@@ -9,11 +10,12 @@ use super::solve::{Solution, solve};
 use super::workspace::Workspace;
 use layers::partition::Partition;
 use std::alloc::{AllocError, Global};
+use std::error::Error;
 use std::{array, fmt};
 use tables::fault::Fault;
 
 // Why a text is not planned: no memory, the text's first fault, or a refusal of the search.
-#[derive(Clone, Copy)]
+#[derive(Clone, Copy, PartialEq, Eq, Debug)]
 pub enum PlanError {
     Memory(AllocError),
     Text(Fault),
@@ -44,7 +46,11 @@ impl From<plain::fault::Fault> for PlanError {
     }
 }
 
+impl Error for PlanError {}
+
 impl fmt::Display for PlanError {
+    ghost output = { error_text };
+
     fn fmt<W: fmt::Write>(&self, f: &mut fmt::Formatter<W>) -> fmt::Result {
         match self {
             PlanError::Memory(error) => write!(f, "{error}"),

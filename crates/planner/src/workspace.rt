@@ -43,10 +43,14 @@ impl Workspace {
     pub(crate) fn new(heap: Global) -> Result<Workspace, AllocError>
         ensures { IfOk result Made }
     {
+        let records = Records::new(heap)?;
+        let search = SearchSpace::new(heap)?;
+        // Between the larger ones: at the bottom of them, the allocator would hand all of them back to the system after each
+        // planning, and ask for them again at the next.
         let prices = vec![in heap; 0u32; OPERATORS]?;
         Ok(Workspace {
-            records: Records::new(heap)?,
-            search: SearchSpace::new(heap)?,
+            records,
+            search,
             prices,
             left: RankSpace::new(heap)?,
             right: RankSpace::new(heap)?,

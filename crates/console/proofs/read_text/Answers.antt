@@ -11,4 +11,4 @@ cut n (Some bytes) p empty read kept l e none known k =
     rw (sym e) first
 
 pub returns-clause-first : goal.returns-clause-first
-returns-clause-first g c = cut c.take.result.limit _ _ _ _ _ c.take.ensures.limit (ap (λ r. g.R.Read.remaining r.now) c.take.ensures.inner) c.new-bytes.ensures.items c.in_ok-read_to_end.ensures.bytes c.truncate.ensures.items
+returns-clause-first g c = cut c.take.result.limit _ _ _ _ _ c.take.ensures.limit (ap (λ r. g.R.Read.remaining r.now) c.take.ensures.inner) c.in_ok-bytes.ensures.items c.in_ok-read_to_end.ensures.bytes c.truncate.ensures.items
