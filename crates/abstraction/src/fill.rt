@@ -57,17 +57,17 @@ fn places_of(task: &Task<'_>, pattern: &[u8]) -> [Place; 8]
     array::from_fn(|index| place_at(task, pattern, index))
 }
 
-// Each operator cut down to the pattern.
-fn operators_of(task: &Task<'_>, pattern: &[u8]) -> [AbstractOperator; 256]
-    ensures long { length result ≡ 256 }
-    ensures operators { (o : ℕ) → o < 256 → OperatorAt task.now pattern.now o (slice_index_or result o no_operator) }
+// Writes each operator cut down to the pattern, in place: `from_fn` would write and move the 8 KiB four times, which on a
+// small task is most of a set.
+fn fill_operators(operators: &mut [AbstractOperator], task: &Task<'_>, pattern: &[u8])
+    requires room { length operators.old ≡ 256 }
+    requires long { (o : ℕ) → o < 256 → length (slice_index_or operators.old o no_operator).parts ≡ 8 }
+    ensures room { length operators.new ≡ 256 }
+    ensures operators { (o : ℕ) → o < 256 → OperatorAt task.now pattern.now o (slice_index_or operators.new o no_operator) }
 {
-    // The closure's clause is written out: 256 calls are too many for what they gave to be read off its body.
-    array::from_fn(
-        |operator| -> AbstractOperator
-            ensures { OperatorAt task.entry.now pattern.entry.now operator result }
-        { abstract_operator(task, pattern, operator) },
-    )
+    for operator in 0..task.operators.len() {
+        operators[operator] = abstract_operator(task, pattern, operator);
+    }
 }
 
 impl<'a> AbstractTask<'a> {
@@ -78,11 +78,13 @@ impl<'a> AbstractTask<'a> {
         ensures task { model result.task.now ≡ model task.now }
         ensures pattern { result.pattern.now ≡ pattern.now }
     {
+        let mut operators = [AbstractOperator::UNTOUCHED; 256];
+        fill_operators(&mut operators, task, pattern);
         AbstractTask {
             task,
             pattern,
             places: places_of(task, pattern),
-            operators: operators_of(task, pattern),
+            operators,
         }
     }
 }

@@ -18,3 +18,10 @@ impl OperatorPart {
 pub struct AbstractOperator {
     pub parts: [OperatorPart; 8],
 }
+
+impl AbstractOperator {
+    // Nothing is required of any place, and none changes.
+    pub const UNTOUCHED: AbstractOperator = AbstractOperator {
+        parts: [OperatorPart::UNTOUCHED; 8],
+    };
+}
