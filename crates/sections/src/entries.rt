@@ -1,7 +1,9 @@
-ghost use Rattle.std.specs.Prelude.{◌≡◌, ℕ, ◌+◌, ◌<◌, ◌≤◌, true, List, [], ◌∷◌, ◌++◌, Option, length, drop, IfSome, IfOk, OnOk, nat_lt};
+ghost use Rattle.std.specs.Prelude.{◌≡◌, ℕ, ◌+◌, ◌<◌, ◌≤◌, true, List, [], ◌∷◌, ◌++◌, Option, length, take, drop, IfSome, IfOk, OnOk, nat_lt};
 ghost use Rattle.lines.specs.declared.number.Number.{Number};
-ghost use Rattle.sections.specs.Entries.{fact_numbers, effect_numbers, required_of, entry_in, names, four, four_among};
+ghost use Rattle.sections.specs.Entries.{fact_numbers, effect_numbers, required_of, entry_in, four, four_among};
+ghost use Rattle.sections.specs.Marks.{Marked};
 
+use crate::seen::Seen;
 use lines::cursor::Cursor;
 use lines::number::{Number, numbers};
 use tables::cause::Cause;
@@ -18,8 +20,10 @@ pub trait Shape {
 }
 
 // A fact is an effect that keeps its value.
+#[derive(Clone, Copy)]
 pub struct Fact;
 
+#[derive(Clone, Copy)]
 pub struct Effect;
 
 impl Shape for Fact {
@@ -54,7 +58,8 @@ fn required(number: Number, domain: usize) -> Option<Option<u8>>
 // The entry of four numbers that lie in their ranges.
 fn ranged(numbers: [Number; 4], variables: &[Variable]) -> Option<Entry>
     requires { length variables.now ≤ 32 }
-    ensures { entry_in variables.now (four numbers) ≡ result }
+    ensures reads { entry_in variables.now (four numbers) ≡ result }
+    ensures range { IfSome result (λ e. e.variable < 32) }
 {
     let [zero, variable, before, after] = numbers;
     zero.within(0..1)?;
@@ -69,14 +74,8 @@ fn ranged(numbers: [Number; 4], variables: &[Variable]) -> Option<Entry>
     })
 }
 
-// Whether an entry of a group names the variable.
-fn names(variable: u8, group: &[Entry]) -> bool
-    ensures { names variable group.now ≡ result }
-{
-    group.iter().any(|entry| entry.variable == variable)
-}
-
-// The entries of a text, each read after those in use: the variables that they name, and where their group begins.
+// The entries of a text, each read after those in use: the variables that they name, where their group begins, and which
+// variables it has named.
 // Their records stand here and not in a Room of their own: of a slice that a struct within a struct borrows, nothing is
 // known once the loan is over (the goal of what reading a whole text returns stays open).
 #[derive(Drop)]
@@ -85,9 +84,11 @@ pub struct Entries<'v, 'e> {
     pub records: &'e mut [Entry],
     pub used: usize,
     pub first: usize,
+    pub seen: Seen,
     ghost few: { length variables.now ≤ 32 },
     ghost begun: { first ≤ used },
     ghost inside: { used ≤ length records.now },
+    ghost marked: { Marked seen (drop first (take used records.now)) },
 }
 
 impl<'v, 'e> Entries<'v, 'e> {
@@ -106,6 +107,7 @@ impl<'v, 'e> Entries<'v, 'e> {
             records,
             used: 0,
             first: 0,
+            seen: Seen::none(),
         }
     }
 
@@ -116,12 +118,14 @@ impl<'v, 'e> Entries<'v, 'e> {
         ensures first { self.new.first ≡ self.old.used }
     {
         self.first = self.used;
+        self.seen = Seen::none();
     }
 
     // The entry in the due line, its variable new in its group, where a record is free: the tests in their order.
     fn entry<S: Shape>(&self, cursor: &mut Cursor) -> Result<Entry, Fault>
         ensures reads { entry_of S.numbers_of self.now.variables.now (drop self.now.first (entries_in self.now)) (nat_lt (length (entries_in self.now)) (length self.now.records.now)) (place_of cursor.old) ≡ answered result cursor.new }
         ensures room { OnOk result (self.now.used < length self.now.records.now) }
+        ensures range { IfOk result (λ e. e.variable < 32) }
     {
         let line = cursor.line()?;
         let Some(found) = S::numbers(line) else {
@@ -130,8 +134,7 @@ impl<'v, 'e> Entries<'v, 'e> {
         let Some(entry) = ranged(found, self.variables) else {
             return Err(cursor.fault(Cause::Range));
         };
-        let group = &self.records[..self.used][self.first..];
-        if names(entry.variable, group) {
+        if self.seen.contains(entry.variable) {
             return Err(cursor.fault(Cause::Twice));
         }
         if self.used == self.records.len() {
@@ -150,6 +153,7 @@ impl<'v, 'e> Entries<'v, 'e> {
             let entry = self.entry::<S>(cursor)?;
             self.records[self.used] = entry;
             self.used += 1;
+            self.seen.add(entry);
         }
         Ok(())
     }

@@ -4,4 +4,5 @@
 pub mod entries;
 pub mod operators;
 pub mod room;
+pub mod seen;
 pub mod variables;
