@@ -1,7 +1,4 @@
-ghost use Rattle.std.specs.Prelude.{ℕ, ◌≤◌};
-
 use super::records::*;
-use std::process::Abort;
 use tables::records::Variable;
 use task::task::Task;
 
@@ -15,35 +12,30 @@ fn records<const V: usize>(variables: [Variable; V]) -> Records<V, 1, 2> {
     }
 }
 
-// The number of the fault's cause with that much memory, if it is refused; and then the memory is left as it was.
+// The number of the fault's cause with that much memory, at most 8 of each, if it is refused; no cause's number, 254, if
+// the memory is not left as it was then.
 fn refusal(
-    rt: &impl Abort,
     task: &Task<'_>,
     pattern: &[u8],
     row: &mut [u32],
     table: usize,
     entries: usize,
     places: usize,
-) -> Option<u8>
-    requires table { table ≤ 8 }
-    requires entries { entries ≤ 8 }
-    requires places { places ≤ 8 }
-{
+) -> Option<u8> {
     let mut table_memory = [9; 8];
     let mut entry_memory = [STALE; 8];
     let mut place_memory = [9; 8];
     let (refused, _) = set_and_ask(
         task,
         pattern,
-        &mut table_memory[..table],
-        &mut entry_memory[..entries],
-        &mut place_memory[..places],
+        &mut table_memory[..table.min(8)],
+        &mut entry_memory[..entries.min(8)],
+        &mut place_memory[..places.min(8)],
         row,
         &[],
     );
-    if refused.is_some() {
-        assert_eq!(rt; table_memory, [9; 8]);
-        assert_eq!(rt; place_memory, [9; 8]);
+    if refused.is_some() && (table_memory != [9; 8] || place_memory != [9; 8]) {
+        return Some(254);
     }
     refused
 }
@@ -53,11 +45,11 @@ fn memory_exactly_enough_and_one_short(rt: HostRuntime) {
     let records = records([variable(3), variable(2)]);
     let task = records.task();
     let mut row = [3];
-    assert_eq!(rt; refusal(&rt, &task, &[0, 1], &mut row, 5, 6, 6), Some(13));
-    assert_eq!(rt; refusal(&rt, &task, &[0, 1], &mut row, 6, 5, 6), Some(13));
-    assert_eq!(rt; refusal(&rt, &task, &[0, 1], &mut row, 6, 6, 5), Some(13));
+    assert_eq!(rt; refusal(&task, &[0, 1], &mut row, 5, 6, 6), Some(13));
+    assert_eq!(rt; refusal(&task, &[0, 1], &mut row, 6, 5, 6), Some(13));
+    assert_eq!(rt; refusal(&task, &[0, 1], &mut row, 6, 6, 5), Some(13));
     assert_eq!(rt; row, [3]);
-    assert_eq!(rt; refusal(&rt, &task, &[0, 1], &mut row, 6, 6, 6), None);
+    assert_eq!(rt; refusal(&task, &[0, 1], &mut row, 6, 6, 6), None);
     assert_eq!(rt; row, [0]);
 }
 
@@ -66,14 +58,14 @@ fn order_of_tests(rt: HostRuntime) {
     let records = records([variable(3), variable(2)]);
     let task = records.task();
     let mut high = [65536];
-    assert_eq!(rt; refusal(&rt, &task, &[1, 0], &mut high, 0, 0, 0), Some(11));
+    assert_eq!(rt; refusal(&task, &[1, 0], &mut high, 0, 0, 0), Some(11));
     assert_eq!(rt; high, [65536]);
-    assert_eq!(rt; refusal(&rt, &task, &[0], &mut [], 3, 3, 3), Some(11));
+    assert_eq!(rt; refusal(&task, &[0], &mut [], 3, 3, 3), Some(11));
     let mut row = [3];
-    assert_eq!(rt; refusal(&rt, &task, &[1, 0], &mut row, 0, 0, 0), Some(12));
-    assert_eq!(rt; refusal(&rt, &task, &[0, 0], &mut row, 8, 8, 8), Some(12));
-    assert_eq!(rt; refusal(&rt, &task, &[0, 2], &mut row, 8, 8, 8), Some(12));
-    assert_eq!(rt; refusal(&rt, &task, &[0], &mut row, 2, 3, 3), Some(13));
+    assert_eq!(rt; refusal(&task, &[1, 0], &mut row, 0, 0, 0), Some(12));
+    assert_eq!(rt; refusal(&task, &[0, 0], &mut row, 8, 8, 8), Some(12));
+    assert_eq!(rt; refusal(&task, &[0, 2], &mut row, 8, 8, 8), Some(12));
+    assert_eq!(rt; refusal(&task, &[0], &mut row, 2, 3, 3), Some(13));
     assert_eq!(rt; row, [3]);
 }
 

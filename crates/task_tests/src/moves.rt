@@ -3,7 +3,7 @@ use task::walk::Walked;
 
 #[test]
 fn operators_apply(rt: HostRuntime) {
-    let task = sofa::task(&rt);
+    let task = sofa::task();
     let mut row = [0u8, 0];
     assert!(rt; !task.apply(1, &mut row));
     assert_eq!(rt; row, [0, 0]);
@@ -19,7 +19,7 @@ fn operators_apply(rt: HostRuntime) {
 
 #[test]
 fn rows_that_are_no_states_stay(rt: HostRuntime) {
-    let task = sofa::task(&rt);
+    let task = sofa::task();
     let mut high = [0u8, 2];
     assert!(rt; !task.apply(3, &mut high));
     assert_eq!(rt; high, [0, 2]);
@@ -35,7 +35,7 @@ fn rows_that_are_no_states_stay(rt: HostRuntime) {
 
 #[test]
 fn prices_and_sizes(rt: HostRuntime) {
-    let task = sofa::task(&rt);
+    let task = sofa::task();
     let mut prices = [0u32; 4];
     assert!(rt; task.prices_into(&mut prices));
     assert_eq!(rt; prices, [1, 3, 2, 7]);
@@ -52,7 +52,7 @@ fn prices_and_sizes(rt: HostRuntime) {
 
 #[test]
 fn names_are_parts_of_the_text(rt: HostRuntime) {
-    let task = sofa::task(&rt);
+    let task = sofa::task();
     assert_eq!(rt; task.variable_name(1), Some(&b"door"[..]));
     assert_eq!(rt; task.variable_name(2), None);
     assert_eq!(rt; task.value_name(0, 2), Some(&b"loft"[..]));
@@ -66,7 +66,7 @@ fn names_are_parts_of_the_text(rt: HostRuntime) {
 
 #[test]
 fn walks(rt: HostRuntime) {
-    let task = sofa::task(&rt);
+    let task = sofa::task();
     let mut row = [0u8, 0];
     let whole = task.walk(&[0, 1, 2], &mut row);
     assert_eq!(rt;

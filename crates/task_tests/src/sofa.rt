@@ -1,5 +1,4 @@
 // The worked example: a sofa to carry from the hall to the loft, by way of the den through a door, or by a hoist.
-use std::process::Abort;
 use tables::records::{Counts, Entry, Operator, Span, Variable};
 use task::task::Task;
 
@@ -96,6 +95,6 @@ pub const COUNTS: Counts = Counts {
 };
 
 // The task of these records.
-pub fn task(rt: &impl Abort) -> Task<'static> {
-    Task::new(TEXT, &VARIABLES, &OPERATORS, &ENTRIES, COUNTS).expect(rt, "the sofa is a task")
+pub fn task() -> Task<'static> {
+    Task::new(TEXT, &VARIABLES, &OPERATORS, &ENTRIES, COUNTS).unwrap_or(Task::built_in())
 }
