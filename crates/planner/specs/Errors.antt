@@ -1,4 +1,4 @@
--- What is printed of a planning that fails: of a text its first fault, of a search the cause that it refuses for, and of memory that is wanting whatever the allocator's error says.
+-- What is printed of a planning that fails: of a text its first fault, and of a search the cause that it refuses for. Of an allocation that fails nothing is said.
 use Rattle.std.specs.Prelude.{ℕ, List, Some, None, Option}
 use Rattle.tables.specs.Causes.{name_of}
 use Rattle.tables.specs.Faults.{fault_text}

@@ -45,8 +45,8 @@ impl Workspace {
     {
         let records = Records::new(heap)?;
         let search = SearchSpace::new(heap)?;
-        // Between the larger ones: at the bottom of them, the allocator would hand all of them back to the system after each
-        // planning, and ask for them again at the next.
+        // Taken between the larger parts: were it taken first, the C library's allocator would give all of them back to the
+        // system after each planning, and ask for them again at the next.
         let prices = vec![in heap; 0u32; OPERATORS]?;
         Ok(Workspace {
             records,
